@@ -1,0 +1,143 @@
+-- What is wrong with a claim, test by test.
+use mathlib.Core.Path.{_≡_, refl, sym, ap, subst, _∙_}
+use mathlib.Core.Bool.{Bool, true, false, _&&_}
+use mathlib.Core.List.{List, [], _∷_, map}
+use mathlib.Core.Logic.{⊎-elim}
+use Prim.Native.Nat.{ℕ, _+_, _<_, _≤_}
+use native.Mathlib.Omega.{arith}
+use lib.Dec.{leb, ltb, eqb}
+use lib.ListN.{length, take}
+use Rattle.std.proofs.shelf.Tests.{and-from, and-parts, lt-ltb, le-leb, leb-true, ltb-true, eq-eqb, eqb-true, cases-bool}
+use Rattle.preset.specs.Rule.{rows-keep}
+use Rattle.preset.specs.Width.{offset-of, size-of}
+use Rattle.preset.specs.Format.{Named}
+use Rattle.preset.specs.Entries.{Claim, unless, fault, faults, name-fits, printable, plain, claim, count-fits}
+use Rattle.preset.specs.Valid.{Rising, AllSound, Valid}
+use Rattle.preset.specs.Steps.{Passes, Fails}
+use Rattle.preset.specs.declared.refusal.Refusal.{Refusal}
+use Rattle.preset.specs.declared.refusal.Refusal.the-variants.{Number, Name, Rows}
+use Rattle.std.specs.declared.option.Option.{Option}
+use Rattle.std.specs.declared.option.Option.the-variants.{Some, None}
+
+-- an answer cannot be both
+pub clash : {o : Option Refusal} {e : Refusal} → o ≡ Some e → o ≡ None → ⊥
+clash {o} {e} p q = let z : _≡_ {A = ℕ} 0 1 = cc in omega arith
+
+pub passed : (t : Bool) (e : Refusal) (o : Option Refusal) → unless t e o ≡ None → (t ≡ true) × (o ≡ None)
+passed true e o h = (refl, h)
+passed false e o h = absurd (clash {o = Some e} refl h)
+
+-- from the facts that the code finds one by one to the chain
+pub name-fit : (c : Claim) → 1 ≤ c .size → c .size ≤ 24 → c .placed ≡ true → printable (c .name) ≡ true → name-fits c ≡ true
+name-fit c some few placed text =
+    and-from _ _ (and-from _ _ (le-leb 1 (c .size) some) (le-leb (c .size) 24 few)) (and-from _ _ placed text)
+
+-- the four facts of a name that fits
+pub record Fit (c : Claim) : Type 0 where
+  pub some : 1 ≤ c .size
+  pub few : c .size ≤ 24
+  pub placed : c .placed ≡ true
+  pub text : printable (c .name) ≡ true
+
+pub fit : (c : Claim) → name-fits c ≡ true → Fit c
+fit c h =
+    let a = and-parts (leb 1 (c .size) && leb (c .size) 24) (c .placed && printable (c .name)) h in
+    let b = and-parts (leb 1 (c .size)) (leb (c .size) 24) (a .0) in
+    let d = and-parts (c .placed) (printable (c .name)) (a .1) in
+    record { some = leb-true 1 (c .size) (b .0); few = leb-true (c .size) 24 (b .1); placed = d .0; text = d .1 }
+
+pub name-unfit : (c : Claim) → (Fit c → ⊥) → name-fits c ≡ false
+name-unfit c never = ⊎-elim (λ t. absurd (never (fit c t))) (λ f. f) (cases-bool (name-fits c))
+
+-- the name of an entry in a file
+pub claim-fits : (at : ℕ) (es ns : List ℕ) → 1 ≤ size-of es → size-of es ≤ 24 → offset-of es ≡ at → size-of es ≤ length ns → printable (take (size-of es) ns) ≡ true → name-fits (claim at es ns) ≡ true
+claim-fits at es ns some few place within text =
+    name-fit (claim at es ns) some few (and-from _ _ (eq-eqb (offset-of es) at place) (le-leb (size-of es) (length ns) within)) text
+
+pub claim-fit : (at : ℕ) (es ns : List ℕ) → Fit (claim at es ns) → (offset-of es ≡ at) × (size-of es ≤ length ns)
+claim-fit at es ns f =
+    let p = and-parts (eqb (offset-of es) at) (leb (size-of es) (length ns)) (f .placed) in
+    (eqb-true (offset-of es) at (p .0), leb-true (size-of es) (length ns) (p .1))
+
+module _ (k last : ℕ) (c : Claim) (rising : last < c .number) where
+  pub name-fails : name-fits c ≡ false → Fails k last c (Name k)
+  name-fails n o = rw (lt-ltb last (c .number) rising, n)
+
+  pub rows-fail : name-fits c ≡ true → rows-keep (c .rows) ≡ false → Fails k last c (Rows k)
+  rows-fail n r o = rw (lt-ltb last (c .number) rising, n, r)
+
+  pub passes : name-fits c ≡ true → rows-keep (c .rows) ≡ true → Passes k last c
+  passes n r o = rw (lt-ltb last (c .number) rising, n, r)
+
+-- and back
+pub record Meets (last : ℕ) (c : Claim) : Type 0 where
+  pub rising : last < c .number
+  pub name : Fit c
+  pub rows : rows-keep (c .rows) ≡ true
+
+pub meets : (k last : ℕ) (c : Claim) (o : Option Refusal) → fault k last c o ≡ None → Meets last c × (o ≡ None)
+meets k last c o h =
+    let a = passed (ltb last (c .number)) (Number k) (unless (name-fits c) (Name k) (unless (rows-keep (c .rows)) (Rows k) o)) h in
+    let b = passed (name-fits c) (Name k) (unless (rows-keep (c .rows)) (Rows k) o) (a .1) in
+    let d = passed (rows-keep (c .rows)) (Rows k) o (b .1) in
+    (record { rising = ltb-true last (c .number) (a .0); name = fit c (b .0); rows = d .0 }, d .1)
+
+pub meets-passes : (k last : ℕ) (c : Claim) → Meets last c → Passes k last c
+meets-passes k last c s = passes k last c (s .rising) (name-fit c (s .name .some) (s .name .few) (s .name .placed) (s .name .text)) (s .rows)
+
+-- where nothing is wrong with a list of claims, what comes next decides
+pub faults-next : (cs : List Claim) (k last : ℕ) (o : Option Refusal) → faults k last cs o ≡ None → o ≡ None
+faults-next [] k last o h = h
+faults-next (c ∷ cs) k last o h = faults-next cs (k + 1) (c .number) o (meets (k + 1) last c _ h .1)
+
+pub faults-clear : (cs : List Claim) (k last : ℕ) → faults k last cs None ≡ None → (o : Option Refusal) → faults k last cs o ≡ o
+faults-clear [] k last h o = refl
+faults-clear (c ∷ cs) k last h o =
+    let s = meets (k + 1) last c _ h in
+    meets-passes (k + 1) last c (s .0) _ ∙ faults-clear cs (k + 1) (c .number) (s .1) o
+
+pub faults-none : (cs : List Claim) (k last : ℕ) (o : Option Refusal) → faults k last cs o ≡ None → faults k last cs None ≡ None
+faults-none cs k last o h = subst (λ x. faults k last cs x ≡ None) (faults-next cs k last o h) h
+
+-- the claim of a preset whose name is where it has to be
+abbrev pub whole : Named → Claim
+whole p = record { number = p .number; size = length (p .name); placed = true; name = p .name; rows = p .rows }
+
+-- a preset is what its claim says, and the claim of a preset says that preset
+pub whole-plain : (c : Claim) → c .placed ≡ true → c .size ≡ length (c .name) → whole (plain c) ≡ c
+whole-plain c p s =
+    ap (λ n. record { number = c .number; size = n; placed = true; name = c .name; rows = c .rows }) (sym s) ∙
+    ap (λ t. record { number = c .number; size = c .size; placed = t; name = c .name; rows = c .rows }) (sym p)
+
+pub plain-whole : (ps : List Named) → map plain (map whole ps) ≡ ps
+plain-whole [] = refl
+plain-whole (p ∷ ps) = ap (λ t. p ∷ t) (plain-whole ps)
+
+-- a valid list is one whose claims are not refused
+pub fine-from : (ps : List Named) (k last : ℕ) → Rising last ps → AllSound ps → faults k last (map whole ps) None ≡ None
+fine-from [] k last r s = refl
+fine-from (p ∷ ps) k last r s =
+    meets-passes (k + 1) last (whole p) (record {
+      rising = r .0;
+      name = record { some = s .0 .some; few = s .0 .few; placed = refl; text = s .0 .text };
+      rows = s .0 .rows;
+    }) _ ∙
+    fine-from ps (k + 1) (p .number) (r .1) (s .1)
+
+pub fine-to : (ps : List Named) (k last : ℕ) → faults k last (map whole ps) None ≡ None → Rising last ps × AllSound ps
+fine-to [] k last h = (tt, tt)
+fine-to (p ∷ ps) k last h =
+    let m = meets (k + 1) last (whole p) _ h in
+    let n = m .0 .name in
+    let r = fine-to ps (k + 1) (p .number) (m .1) in
+    ((m .0 .rising, r .0), (record { some = n .some; few = n .few; text = n .text; rows = m .0 .rows }, r .1))
+
+pub valid-from : (ps : List Named) → 1 ≤ length ps → length ps ≤ 32 → faults 0 0 (map whole ps) None ≡ None → Valid ps
+valid-from ps some few h = let v = fine-to ps 0 0 h in record { some = some; few = few; rising = v .0; sound = v .1 }
+
+-- a count of 1 to 32
+pub count-fit : (n : ℕ) → 1 ≤ n → n ≤ 32 → count-fits n ≡ true
+count-fit n some few = and-from _ _ (le-leb 1 n some) (le-leb n 32 few)
+
+pub count-parts : (n : ℕ) → count-fits n ≡ true → (1 ≤ n) × (n ≤ 32)
+count-parts n h = let p = and-parts (leb 1 n) (leb n 32) h in (leb-true 1 n (p .0), leb-true n 32 (p .1))

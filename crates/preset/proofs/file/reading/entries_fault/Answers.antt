@@ -1,0 +1,56 @@
+use mathlib.Core.Path.{_≡_, sym, ap, subst, _∙_}
+use mathlib.Core.List.{map}
+use Prim.Native.Nat.{_+_, _≤_}
+use native.Mathlib.Omega.{arith}
+use lib.Dec.{eqb}
+use lib.ListN.{length, drop}
+use Rattle.std.proofs.shelf.Lists.{length-drop}
+use Rattle.std.proofs.shelf.Tests.{eq-eqb, ne-eqb}
+use Rattle.preset.specs.Width.{number-of, size-of}
+use Rattle.preset.specs.Format.{base, names}
+use Rattle.preset.specs.Entries.{claims-in, decoded, plain, faults, unless}
+use Rattle.preset.specs.declared.refusal.Refusal.the-variants.{Name}
+use Rattle.std.specs.declared.option.Option.the-variants.{Some, None}
+use Rattle.preset.proofs.Steps.{claims-start, entries-end, entries-from, claims-from, checks-here, here, faults-on, faults-stop, names-on}
+use Rattle.preset.proofs.file.reading.entries_fault.Needs as need
+
+pub loop-i-holds : need.loop-i-holds
+loop-i-holds c =
+    let b = c .args .bytes .now in
+    let s = claims-start b (c .args .count) (c .pre .0) in
+    (c .pre .1 .1, ap (λ cs. base (c .args .count) + length (names (map plain cs))) s, (λ o. ap (λ cs. faults 0 0 cs o) s))
+
+pub loop-i-again : need.loop-i-again
+loop-i-again c =
+    let b = c .args .bytes .now in
+    let n = c .args .count in
+    let i = c .loop-i .i in
+    let at = c .loop-i .at in
+    let k = checks-here b i at (i + 1) (c .loop-i .last .value) None (c .in-rest .ensures tt) in
+    let number-is = c .read-last .ensures ∙ here b i at number-of in
+    let size-is = c .name-length-at .ensures ∙ here b i at size-of in
+    let m = names-on b n i at (omega arith) (k .1) ∙ ap (λ s. s + length (names (map plain (claims-from b n (i + 1) (at + s))))) (sym size-is) in (
+      omega (arith, k .1, length-drop at b),
+      omega (arith, c .loop-i .inv .1),
+      (λ o. ap (λ s. faults (i + 1) (c .read-last .result .value) (claims-from b n (i + 1) (at + s)) o) size-is ∙
+          (ap (λ x. faults (i + 1) x (claims-from b n (i + 1) (at + size-of (entries-from b i))) o) number-is ∙
+          (sym (faults-on b n i at (omega arith) (c .loop-i .last .value) (k .0) o) ∙ c .loop-i .inv .2 o))),
+    )
+
+pub returns-in-Some : need.returns-in-Some
+returns-in-Some c =
+    let b = c .args .bytes .now in
+    let k = checks-here b (c .loop-i .i) (c .loop-i .at) (c .loop-i .i + 1) (c .loop-i .last .value) (Some (c .in-Some .e)) (c .in-Some .ensures tt) in
+    sym (faults-stop b (c .args .count) (c .loop-i .i) (c .loop-i .at) (omega arith) (c .loop-i .last .value) (c .in-Some .e) k _) ∙ c .loop-i .inv .2 _
+
+pub returns-then-at-bytes : need.returns-then-at-bytes
+returns-then-at-bytes c =
+    let b = c .args .bytes .now in
+    let e = entries-end b (c .args .count) (c .pre .0) (c .loop-i .i) (c .loop-i .last .value) (c .loop-i .at) (omega arith) (c .loop-i .inv .1) (c .loop-i .inv .2) in
+    sym (e ∙ ap (λ t. unless t (Name (c .args .count)) None) (ne-eqb (c .loop-i .at) (length b) (λ q. omega arith)))
+
+pub returns : need.returns
+returns c =
+    let b = c .args .bytes .now in
+    let e = entries-end b (c .args .count) (c .pre .0) (c .loop-i .i) (c .loop-i .last .value) (c .loop-i .at) (omega arith) (c .loop-i .inv .1) (c .loop-i .inv .2) in
+    sym (e ∙ ap (λ t. unless t (Name (c .args .count)) None) (eq-eqb (c .loop-i .at) (length b) (omega (arith, c .loop-i .inv .0))))

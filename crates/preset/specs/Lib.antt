@@ -1,0 +1,10 @@
+pub mod Rule
+pub mod Refusals
+pub mod Width
+pub mod Format
+pub mod Entries
+pub mod Valid
+pub mod Standard
+pub mod Named
+pub mod Steps
+pub mod Calls

@@ -1,0 +1,7 @@
+-- The PZB 90 preset.
+use lib.Chars.{codes}
+use Rattle.preset.specs.Rule.{pzb90}
+use Rattle.preset.specs.Format.{Named}
+
+abbrev pub standard : Named
+standard = record { number = 1; name = codes "Standard"; rows = pzb90 }

@@ -1,0 +1,21 @@
+ghost use mathlib.Core.Bool.{true};
+ghost use mathlib.Core.Path.{_≡_};
+ghost use Rattle.preset.specs.Rule.{row-rule};
+
+mod make;
+
+// Seven numbers that keep the row rule: speeds in whole km/h, and `fall` in whole seconds.
+#[derive(Clone, Copy)]
+pub struct Row {
+    // the speed at once, and the lowest that the limit of a 1000 Hz run falls to, in `fall`
+    top: u8,
+    low: u8,
+    fall: u8,
+    // where the limit of a 500 Hz run starts and ends
+    high5: u8,
+    low5: u8,
+    // the same of a restrictive one
+    rhigh: u8,
+    rlow: u8,
+    ghost rule: { row-rule top low fall high5 low5 rhigh rlow ≡ true },
+}
