@@ -12,7 +12,7 @@ use Rattle.preset.specs.Rule.{rows-keep}
 use Rattle.preset.specs.Width.{number-of, size-of, rows-of, entry-size}
 use Rattle.preset.specs.Format.{Named, Held, base, total, located, header-size, encoded}
 use Rattle.preset.specs.Entries.{Claim, claim, claims, claims-in, count-in, count-fits, plain, faults, unless, decoded, held, numbered, first-refusal}
-use Rattle.preset.specs.Named.{named, all-named, held-as, part, three-rows, claimed, write-refusal}
+use Rattle.preset.specs.Named.{named, all-named, held-as, part, three-rows, claimed, LiesIn, AllLieIn, write-refusal}
 use Rattle.preset.specs.Steps.{Says, Lies, inside}
 use Rattle.preset.specs.Calls.{Lists}
 use Rattle.preset.specs.declared.preset.Preset.{Preset}
@@ -164,6 +164,10 @@ claimed-whole text (p ∷ ps) i =
     ap (λ t. t ∷ map whole (all-named text ps)) (whole-plain (claimed text p) (le-leb (p .name .offset + p .name .length) (length text) (i .0 .1)) (sym (name-long text p (i .0 .1)))) ∙
     ap (λ t. claimed text p ∷ t) (claimed-whole text ps (i .1))
 
+all-in : (text : List ℕ) (ps : List Preset) → inside text ps → AllLieIn text ps
+all-in text [] i = tt
+all-in text (p ∷ ps) i = (i .0 .1, all-in text ps (i .1))
+
 -- the presets of a file, written with the file as their text
 pub lists : (b : List ℕ) (ps : List Preset) → Bytes b → first-refusal b ≡ None → map (held-as b) ps ≡ held b → inside b ps → Lists b ps
 lists b ps y h e i =
@@ -174,7 +178,10 @@ lists b ps y h e i =
     let many : count-fits (length ps) ≡ true = count-fit (length ps) (omega (arith, v .some)) (omega (arith, v .few)) in
     let clear = sym (ap (λ cs. faults 0 0 cs None) (sym (ap (map whole) same) ∙ claimed-whole b ps i)) ∙ decoded-fine b y h in
     record {
-      listed = e;
+      presets = same;
+      places = e;
+      in-file = all-in b ps i;
       bytes-again = ap encoded same ∙ encoded-decoded b y h;
+      length-again = ap total same ∙ a .total-is;
       not-refused = λ room. rw many (faults-clear (map (claimed b) ps) 0 0 clear _ ∙ ap (λ n. unless (leb n room) Room None) (ap total same ∙ a .total-is));
     }

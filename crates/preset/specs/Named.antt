@@ -1,6 +1,6 @@
 -- The code's presets, with their names out of a text.
 use mathlib.Core.List.{List, [], _∷_, map}
-use Prim.Native.Nat.{ℕ, _+_}
+use Prim.Native.Nat.{ℕ, _+_, _≤_}
 use lib.Dec.{leb}
 use lib.ListN.{length, take, drop}
 use Rattle.preset.specs.Rule.{ThreeRows}
@@ -25,6 +25,10 @@ three-rows r = record { o = row-numbers (r .o); m = row-numbers (r .m); u = row-
 -- the part of a text that a place names
 abbrev pub part : List ℕ → Place → List ℕ
 part text p = take (p .length) (drop (p .offset) text)
+
+-- a place lies in a text
+abbrev pub LiesIn : List ℕ → Place → Type 0
+LiesIn text p = p .offset + p .length ≤ length text
 
 -- a preset with its name out of the text
 abbrev pub named : List ℕ → Preset → Named
@@ -53,3 +57,8 @@ write-refusal ps text room =
     unless (count-fits (length ps)) Count
     (faults 0 0 (map (claimed text) ps)
     (unless (leb (total (all-named text ps)) room) Room None))
+
+-- each name lies in the text
+abbrev pub AllLieIn : List ℕ → List Preset → Type 0
+AllLieIn text [] = Unit {0}
+AllLieIn text (p ∷ ps) = LiesIn text (p .name) × AllLieIn text ps

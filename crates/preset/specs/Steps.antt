@@ -8,7 +8,7 @@ use Rattle.preset.specs.Rule.{rows-keep}
 use Rattle.preset.specs.Width.{number-of, size-of, rows-of}
 use Rattle.preset.specs.Format.{total}
 use Rattle.preset.specs.Entries.{Claim, claim, fault, faults}
-use Rattle.preset.specs.Named.{three-rows, claimed, all-named}
+use Rattle.preset.specs.Named.{three-rows, claimed, all-named, LiesIn}
 use Rattle.preset.specs.declared.preset.Preset.{Preset}
 use Rattle.preset.specs.declared.preset.Rows.{Rows as PresetRows}
 use Rattle.preset.specs.declared.refusal.Refusal.{Refusal}
@@ -43,7 +43,7 @@ Checks k last at es ns (Some e) = Fails k last (claim at es ns) e
 
 -- a preset's name has at most 24 bytes and lies in the text
 abbrev pub Lies : List ℕ → Preset → Type 0
-Lies text p = (p .name .length ≤ 24) × (p .name .offset + p .name .length ≤ length text)
+Lies text p = (p .name .length ≤ 24) × LiesIn text (p .name)
 
 abbrev pub inside : List ℕ → List Preset → Type 0
 inside text [] = Unit {0}

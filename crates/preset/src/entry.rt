@@ -15,10 +15,10 @@ use crate::Rows;
 use crate::layout::NUMBER_WIDTH;
 
 // The longest name.
-pub const NAME_MOST: usize = 24;
+pub(crate) const NAME_MOST: usize = 24;
 
 // Whether each byte is printable, 32 to 126.
-pub fn all_printable(name: &[u8]) -> bool
+pub(crate) fn all_printable(name: &[u8]) -> bool
     ensures { λ r. ⌜ r ≡ printable (now (name .entry)) ⌝ }
 {
     for b in name {
@@ -47,7 +47,7 @@ fn rows(es: &[u8]) -> Option<Rows>
 }
 
 // How long the name of the entry at the front of `es` is.
-pub fn name_length(es: &[u8]) -> usize
+pub(crate) fn name_length(es: &[u8]) -> usize
     requires { ⌜ entry-size ≤ length (now es) ⌝ }
     ensures { λ r. ⌜ r ≡ size-of (now (es .entry)) ⌝ }
 {
@@ -55,7 +55,13 @@ pub fn name_length(es: &[u8]) -> usize
 }
 
 // What is wrong with the entry k at the front of `es`, whose name has to be at the front of `ns`, which is `at`.
-pub fn entry_fault(es: &[u8], ns: &[u8], k: u8, last: PresetNumber, at: usize) -> Option<Refusal>
+pub(crate) fn entry_fault(
+    es: &[u8],
+    ns: &[u8],
+    k: u8,
+    last: PresetNumber,
+    at: usize,
+) -> Option<Refusal>
     requires { ⌜ entry-size ≤ length (now es) ⌝ }
     ensures { λ r. ⌜ Checks k (last .value) at (now (es .entry)) (now (ns .entry)) r ⌝ }
 {
@@ -77,7 +83,7 @@ pub fn entry_fault(es: &[u8], ns: &[u8], k: u8, last: PresetNumber, at: usize) -
 }
 
 // The preset of the entry at the front of `es`, which nothing is wrong with, with its name at `at`.
-pub fn preset_at(es: &[u8], at: usize) -> Preset
+pub(crate) fn preset_at(es: &[u8], at: usize) -> Preset
     requires { ⌜ entry-size ≤ length (now es) ⌝ ∗ ⌜ rows-keep (rows-of (now es)) ≡ true ⌝ }
     ensures { λ p. ⌜ Says at (now (es .entry)) p ⌝ }
 {

@@ -1,6 +1,6 @@
 mod reading;
 
-pub use reading::COUNT_MOST;
+pub(crate) use reading::COUNT_MOST;
 pub use reading::read;
 
 // The bytes of a file that was read: only `read` makes one.

@@ -2,7 +2,7 @@ ghost use mathlib.Core.List.{_∷_, _++_};
 ghost use mathlib.Core.Path.{_≡_};
 ghost use Prim.Native.Nat.{_≤_, _+_, _<_};
 ghost use lib.ListN.{length, take, drop};
-ghost use Rattle.preset.specs.Calls.{Wrote};
+ghost use Rattle.preset.specs.Calls.{ReadBack, Wrote};
 ghost use Rattle.preset.specs.Format.{encoded, rows-bytes, total};
 ghost use Rattle.preset.specs.Named.{all-named, three-rows};
 ghost use Rattle.preset.specs.Steps.{Admits, Measures, inside};
@@ -121,7 +121,8 @@ fn put_all(presets: &[Preset], text: &[u8], long: usize, buffer: &mut [u8])
 
 // Writes the presets, with their names out of the text, into the front of the buffer, and answers the file's length.
 pub fn write(presets: &[Preset], text: &[u8], buffer: &mut [u8]) -> Result<usize, Refusal>
-    ensures { λ r. ⌜ Wrote (now (presets .entry)) (now (text .entry)) (now (buffer .entry)) (now (buffer .exit)) r ⌝ }
+    ensures answer { λ r. ⌜ Wrote (now (presets .entry)) (now (text .entry)) (now (buffer .entry)) (now (buffer .exit)) r ⌝ }
+    ensures read_back { λ r. ⌜ ReadBack (now (presets .entry)) (now (text .entry)) (now (buffer .exit)) r ⌝ }
 {
     if presets.len() < 1 || presets.len() > COUNT_MOST as usize {
         return Err(Refusal::Count);

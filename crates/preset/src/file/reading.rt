@@ -1,7 +1,7 @@
 ghost use mathlib.Core.Path.{_≡_};
 ghost use Prim.Native.Nat.{_≤_};
 ghost use lib.ListN.{length};
-ghost use Rattle.preset.specs.Calls.{Finds, Hands, Lists, Reads};
+ghost use Rattle.preset.specs.Calls.{Finds, Hands, Lists, OfValidList, Reads};
 ghost use Rattle.preset.specs.Entries.{count-in, entries-refusal, first-refusal};
 ghost use Rattle.preset.specs.Format.{base};
 ghost use Rattle.std.specs.Of.Vec.{vec-items};
@@ -21,7 +21,7 @@ use std::alloc::AllocError;
 use std::alloc::Global;
 
 // The most presets that a file can hold.
-pub const COUNT_MOST: u8 = 32;
+pub(crate) const COUNT_MOST: u8 = 32;
 
 // What is wrong with the entries, or with what lies behind the last name.
 fn entries_fault(bytes: &[u8], count: u8) -> Option<Refusal>
@@ -68,7 +68,8 @@ fn file_fault(bytes: &[u8]) -> Option<Refusal>
 
 // Reads a file, or answers the first refusal.
 pub fn read(bytes: &[u8]) -> Result<PresetFile<'_>, Refusal>
-    ensures { λ r. ⌜ Reads (now (bytes .entry)) r ⌝ }
+    ensures answer { λ r. ⌜ Reads (now (bytes .entry)) r ⌝ }
+    ensures exactly_valid_lists { λ r. ⌜ OfValidList (now (bytes .entry)) r ⌝ }
 {
     match file_fault(bytes) {
         Some(e) => Err(e),

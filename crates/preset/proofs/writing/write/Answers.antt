@@ -22,4 +22,7 @@ returns-else-long-buffer c =
     let counted : count-fits (length ps) ≡ true = count-fit (length ps) (omega arith) (omega arith) in
     let r = read-back text ps n (c .args .buffer .now) (c .put-all .last .buffer) (omega arith) (omega arith) (k .2) (k .3) (k .0) (c .put-all .ensures) in
     let room = le-leb (total (all-named text ps)) (length (c .args .buffer .now)) (omega (arith, k .0)) in
-    (rw (counted, room) (k .3 None), k .0, omega arith, c .put-all .ensures, r .accepted, r .holds)
+    record {
+      answer = (rw (counted, room) (k .3 None), k .0, omega arith, c .put-all .ensures);
+      read-back = (r .accepted, r .holds);
+    }

@@ -17,7 +17,13 @@ preset-at-requires c κs =
 
 pub returns-then-read-number : need.returns-then-read-number
 returns-then-read-number c =
-    sym (c .loop-i .inv .1) ∙ found (c .args .self .now .bytes .now) _ (c .loop-i .i) (c .loop-i .at) (omega arith) (c .loop-i .inv .0) (c .args .number .value) (c .read .result .value) (c .read .ensures) (c .preset-at .result) (c .preset-at .ensures) (c .if-read-number .taken)
+    let b = c .args .self .now .bytes .now in
+    let says = c .preset-at .ensures in
+    let within = stands-inside b _ (c .loop-i .i) (c .loop-i .at) (omega arith) (c .loop-i .inv .0) (c .preset-at .result .name .length) (says .size) in (
+      sym (c .loop-i .inv .1) ∙
+          found b _ (c .loop-i .i) (c .loop-i .at) (omega arith) (c .loop-i .inv .0) (c .args .number .value) (c .read .result .value) (c .read .ensures) (c .preset-at .result) says (c .if-read-number .taken),
+      omega (arith, says .offset),
+    )
 
 pub loop-i-again : need.loop-i-again
 loop-i-again c =

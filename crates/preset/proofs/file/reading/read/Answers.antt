@@ -5,10 +5,10 @@ use Rattle.preset.proofs.file.reading.read.Needs as need
 pub returns-in-Some : need.returns-in-Some
 returns-in-Some c =
     let h = sym (c .in-Some .ensures tt) in
-    (h, no-list (c .args .bytes .now) (c .in-Some .e) h)
+    record { answer = h; exactly-valid-lists = no-list (c .args .bytes .now) (c .in-Some .e) h }
 
 pub returns-in-None : need.returns-in-None
 returns-in-None c =
     let b = c .args .bytes .now in
     let h = sym (c .in-None .ensures tt) in
-    (h, refl, file-of b (λ i. c .typed .bytes i .fits) h, only-list b)
+    record { answer = (h, refl); exactly-valid-lists = (file-of b (λ i. c .typed .bytes i .fits) h, only-list b) }
