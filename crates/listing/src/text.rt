@@ -4,8 +4,7 @@ ghost use mathlib.Core.Path.{_≡_};
 ghost use Prim.Native.Nat.{_≤_};
 ghost use lib.ListN.{length};
 ghost use Rattle.listing.specs.Report.{all-lines, outcome, report-of, verdict, wrote-line};
-ghost use Rattle.preset.specs.Calls.{Lists};
-ghost use Rattle.preset.specs.Entries.{first-refusal};
+ghost use Rattle.preset.specs.Calls.{Accepted, Lists};
 ghost use Rattle.preset.specs.Named.{all-named, AllLieIn};
 ghost use Rattle.std.specs.Of.Vec.{vec-items};
 ghost use Rattle.std.specs.Vec.{made};
@@ -104,7 +103,7 @@ fn put_file(
     bytes: &[u8],
     file: &PresetFile,
 ) -> Result<(), AllocError>
-    requires { ⌜ first-refusal (now bytes) ≡ None ⌝ ∗ ⌜ now (now file .bytes) ≡ now bytes ⌝ }
+    requires { ⌜ Accepted (now file) ⌝ ∗ ⌜ now (now file .bytes) ≡ now bytes ⌝ }
     ensures { λ r. ⌜ made r (λ _. vec-items (now (out .exit)) ≡ vec-items (now (out .entry)) ++ outcome (now (bytes .entry)) None) ⌝ }
 {
     let presets = file.presets(heap)?;

@@ -19,9 +19,13 @@ use Rattle.std.specs.declared.option.Option.the-variants.{Some, None}
 use Rattle.std.specs.declared.result.Result.{Result}
 use Rattle.std.specs.declared.result.Result.the-variants.{Ok, Err}
 
+-- a file whose bytes are not refused: `read` makes no other
+abbrev pub Accepted : PresetFile → Type 0
+Accepted f = first-refusal (now (f .bytes)) ≡ None
+
 -- bytes that no refusal names are read, and others are answered with the first refusal
 abbrev pub Reads : List ℕ → Result PresetFile Refusal → Type 0
-Reads b (Ok f) = (first-refusal b ≡ None) × (now (f .bytes) ≡ b)
+Reads b (Ok f) = (first-refusal b ≡ None) × (now (f .bytes) ≡ b) × Accepted f
 Reads b (Err e) = first-refusal b ≡ Some e
 
 -- bytes are read exactly where they are the file of a valid list, and that one list is what they hold

@@ -8,6 +8,7 @@ mod programme;
 mod refusal;
 mod row;
 mod standard;
+mod units;
 mod writing;
 
 pub use file::PresetFile;
@@ -22,4 +23,6 @@ pub use refusal::RefusalDebug;
 pub use refusal::RefusalEq;
 pub use refusal::RefusalPartialEq;
 pub use row::Row;
+pub use units::Kmh;
+pub use units::Seconds;
 pub use writing::write;

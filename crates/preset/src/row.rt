@@ -2,6 +2,7 @@ ghost use mathlib.Core.Bool.{true};
 ghost use mathlib.Core.Path.{_≡_};
 ghost use Rattle.preset.specs.Rule.{row-rule};
 
+mod fields;
 mod make;
 
 // Seven numbers that keep the row rule: speeds in whole km/h, and `fall` in whole seconds.

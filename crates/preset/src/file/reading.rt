@@ -1,7 +1,7 @@
 ghost use mathlib.Core.Path.{_≡_};
 ghost use Prim.Native.Nat.{_≤_};
 ghost use lib.ListN.{length};
-ghost use Rattle.preset.specs.Calls.{Finds, Hands, Lists, OfValidList, Reads};
+ghost use Rattle.preset.specs.Calls.{Accepted, Finds, Hands, Lists, OfValidList, Reads};
 ghost use Rattle.preset.specs.Entries.{count-in, entries-refusal, first-refusal};
 ghost use Rattle.preset.specs.Format.{base};
 ghost use Rattle.std.specs.Of.Vec.{vec-items};
@@ -80,7 +80,7 @@ pub fn read(bytes: &[u8]) -> Result<PresetFile<'_>, Refusal>
 impl<'a> PresetFile<'a> {
     // The presets, in order.
     pub fn presets(&self, heap: Global) -> Result<Vec<Preset>, AllocError>
-        requires { ⌜ first-refusal (now (now self .bytes)) ≡ None ⌝ }
+        requires { ⌜ Accepted (now self) ⌝ }
         ensures { λ r. ⌜ made r (λ v. Lists (now (now (self .entry) .bytes)) (vec-items v)) ⌝ }
     {
         let bytes = self.bytes;
@@ -97,7 +97,7 @@ impl<'a> PresetFile<'a> {
 
     // The preset of that number, or nothing where no entry has it.
     pub fn lookup(&self, number: PresetNumber) -> Option<Preset>
-        requires { ⌜ first-refusal (now (now self .bytes)) ≡ None ⌝ }
+        requires { ⌜ Accepted (now self) ⌝ }
         ensures { λ r. ⌜ Finds (now (now (self .entry) .bytes)) (number .value) r ⌝ }
     {
         let bytes = self.bytes;

@@ -78,46 +78,4 @@ impl Row {
             self.rlow,
         ]
     }
-
-    pub fn top(&self) -> u8
-        ensures { λ r. ⌜ r ≡ now (self .entry) .top ⌝ }
-    {
-        self.top
-    }
-
-    pub fn low(&self) -> u8
-        ensures { λ r. ⌜ r ≡ now (self .entry) .low ⌝ }
-    {
-        self.low
-    }
-
-    pub fn fall(&self) -> u8
-        ensures { λ r. ⌜ r ≡ now (self .entry) .fall ⌝ }
-    {
-        self.fall
-    }
-
-    pub fn high5(&self) -> u8
-        ensures { λ r. ⌜ r ≡ now (self .entry) .high5 ⌝ }
-    {
-        self.high5
-    }
-
-    pub fn low5(&self) -> u8
-        ensures { λ r. ⌜ r ≡ now (self .entry) .low5 ⌝ }
-    {
-        self.low5
-    }
-
-    pub fn rhigh(&self) -> u8
-        ensures { λ r. ⌜ r ≡ now (self .entry) .rhigh ⌝ }
-    {
-        self.rhigh
-    }
-
-    pub fn rlow(&self) -> u8
-        ensures { λ r. ⌜ r ≡ now (self .entry) .rlow ⌝ }
-    {
-        self.rlow
-    }
 }

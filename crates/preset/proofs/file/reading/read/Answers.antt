@@ -11,4 +11,4 @@ pub returns-in-None : need.returns-in-None
 returns-in-None c =
     let b = c .args .bytes .now in
     let h = sym (c .in-None .ensures tt) in
-    record { answer = (h, refl); exactly-valid-lists = (file-of b (λ i. c .typed .bytes i .fits) h, only-list b) }
+    record { answer = (h, refl, h); exactly-valid-lists = (file-of b (λ i. c .typed .bytes i .fits) h, only-list b) }

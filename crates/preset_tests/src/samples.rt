@@ -1,0 +1,149 @@
+use preset::read;
+use std::alloc::AllocError;
+use std::alloc::Global;
+
+// The file of the PZB 90 preset, number 1, `Standard`.
+pub const STANDARD: [u8; 39] = [
+    1,
+    1,
+    0,
+    6,
+    0,
+    39, // version, count, offset, length
+    1,
+    0,
+    31,
+    8, // number, the name's offset and length
+    165,
+    85,
+    23,
+    65,
+    45,
+    45,
+    25, // O
+    125,
+    70,
+    29,
+    50,
+    35,
+    25,
+    25, // M
+    105,
+    55,
+    38,
+    40,
+    25,
+    25,
+    25, // U
+    83,
+    116,
+    97,
+    110,
+    100,
+    97,
+    114,
+    100, // Standard
+];
+
+// Two presets, 3 `A` and 200 `BC`.
+pub const PAIR: [u8; 59] = [
+    1,
+    2,
+    0,
+    6,
+    0,
+    59, // version, count, offset, length
+    3,
+    0,
+    56,
+    1, // number, the name's offset and length
+    100,
+    70,
+    26,
+    50,
+    35,
+    35,
+    25, // O
+    90,
+    65,
+    30,
+    45,
+    30,
+    25,
+    25, // M
+    80,
+    50,
+    38,
+    40,
+    25,
+    25,
+    25, // U
+    200,
+    0,
+    57,
+    2, // number, the name's offset and length
+    250,
+    250,
+    60,
+    250,
+    250,
+    45,
+    45, // O
+    250,
+    45,
+    1,
+    45,
+    45,
+    45,
+    1, // M
+    45,
+    45,
+    1,
+    45,
+    1,
+    1,
+    1, // U
+    65,
+    66,
+    67, // A, BC
+];
+
+// The number of the refusal and its entry, or 0 where the bytes are read.
+pub fn outcome(bytes: &[u8]) -> (u8, Option<u8>) {
+    match read(bytes) {
+        Ok(_) => (0, None),
+        Err(e) => (e.number(), e.entry()),
+    }
+}
+
+// The same of bytes with some of them changed: each edit is a place and a value.
+pub fn edited(
+    heap: Global,
+    bytes: &[u8],
+    edits: &[(usize, u8)],
+) -> Result<(u8, Option<u8>), AllocError> {
+    let mut copy = bytes.to_vec(heap)?;
+    for (at, value) in edits {
+        if let Some(b) = copy.get_mut(*at) {
+            *b = *value;
+        }
+    }
+    Ok(outcome(copy.as_slice()))
+}
+
+// The file of the presets 1 to `count`, each with the PZB 90 rows and the name `A`, put together byte by byte.
+pub fn built(heap: Global, count: u8) -> Result<Vec<u8>, AllocError> {
+    let names = 25u16.wrapping_mul(u16::from(count)).wrapping_add(6);
+    let [high, low] = names.wrapping_add(u16::from(count)).to_be_bytes();
+    let mut file = Vec::new(heap);
+    file.extend_from_slice(&[1, count, 0, 6, high, low])?;
+    for i in 0..count {
+        let [high, low] = names.wrapping_add(u16::from(i)).to_be_bytes();
+        file.extend_from_slice(&[i.saturating_add(1), high, low, 1])?;
+        file.extend_from_slice(&STANDARD[10..31])?;
+    }
+    for _ in 0..count {
+        file.push(65)?;
+    }
+    Ok(file)
+}
