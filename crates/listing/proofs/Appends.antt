@@ -1,12 +1,11 @@
 -- One text behind another.
-use mathlib.Core.Path.{_≡_, refl, sym, ap, subst, _∙_}
-use mathlib.Core.Bool.{Bool, true}
-use mathlib.Core.List.{List, [], _∷_, _++_}
+use mathlib.Core.Path.{_≡_, sym, ap, subst, _∙_}
+use mathlib.Core.List.{List, _∷_, _++_}
 use Prim.Native.Nat.{ℕ, _+_, _-_, _<_}
 use native.Mathlib.Omega.{arith}
 use lib.ListN.{length, getD, take, drop}
-use Rattle.std.proofs.shelf.Lists.{append-assoc, append-nil, drop-more, take-at}
-use Rattle.preset.specs.Named.{all-named, named, AllLieIn, LiesIn}
+use Rattle.std.proofs.shelf.Lists.{append-assoc, drop-more, take-at}
+use Rattle.preset.specs.Presets.{all-named, named, AllLieIn, LiesIn}
 use Rattle.preset.specs.declared.preset.Preset.{Preset}
 use Rattle.listing.specs.Report.{all-lines, preset-lines}
 

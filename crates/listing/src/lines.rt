@@ -1,7 +1,7 @@
 ghost use mathlib.Core.List.{_++_};
 ghost use mathlib.Core.Path.{_≡_};
 ghost use Rattle.listing.specs.Report.{letter-of, preset-lines, refusal-line, row-line, spaced, title-line};
-ghost use Rattle.preset.specs.Named.{three-rows};
+ghost use Rattle.preset.specs.Presets.{three-rows};
 ghost use Rattle.std.specs.Of.Vec.{vec-items};
 ghost use Rattle.std.specs.Vec.{made};
 use preset::Preset;

@@ -5,7 +5,7 @@ ghost use Prim.Native.Nat.{_≤_};
 ghost use lib.ListN.{length};
 ghost use Rattle.listing.specs.Report.{all-lines, outcome, report-of, verdict, wrote-line};
 ghost use Rattle.preset.specs.Calls.{Accepted, Lists};
-ghost use Rattle.preset.specs.Named.{all-named, AllLieIn};
+ghost use Rattle.preset.specs.Presets.{all-named, AllLieIn};
 ghost use Rattle.std.specs.Of.Vec.{vec-items};
 ghost use Rattle.std.specs.Vec.{made};
 ghost use Rattle.std.specs.declared.option.Option.the-variants.{None};

@@ -1,7 +1,7 @@
 -- Lists of a known length, element by element.
 use mathlib.Core.Path.{_≡_, refl, ap, _∙_}
 use mathlib.Core.List.{List, [], _∷_}
-use Prim.Native.Nat.{ℕ, _≤_, _<_, _+_, suc, zero}
+use Prim.Native.Nat.{ℕ, _≤_, _+_, suc, zero}
 use native.Mathlib.Omega.{arith}
 use lib.ListN.{length, getD, drop}
 use Rattle.std.proofs.shelf.Lists.{drop-more, nil-from-length, length-drop}

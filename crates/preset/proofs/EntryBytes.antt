@@ -1,18 +1,18 @@
 -- The bytes of one entry, written and read.
-use mathlib.Core.Path.{_≡_, refl, sym, ap, subst, _∙_}
-use mathlib.Core.Bool.{Bool, true, false, _&&_}
-use mathlib.Core.List.{List, [], _∷_, _++_}
-use Prim.Native.Nat.{ℕ, _+_, _*_, _/_, _%_, _<_, _≤_}
+use mathlib.Core.Path.{_≡_, refl, sym, ap, _∙_}
+use mathlib.Core.Bool.{true, _&&_}
+use mathlib.Core.List.{List, _∷_, _++_}
+use Prim.Native.Nat.{ℕ, _+_, _/_, _%_, _≤_}
 use native.Mathlib.Omega.{arith}
 use lib.Dec.{leb, eqb}
 use lib.ListN.{length, getD, take, drop}
 use lib.Seq.{take-add}
 use Rattle.std.proofs.shelf.Lists.{append-assoc, length-append, take-at, drop-at, drop-drop}
 use Rattle.std.proofs.shelf.Tests.{and-from, and-parts, eqb-true, eq-eqb, le-leb}
-use Rattle.preset.specs.Rule.{ThreeRows, row-keeps, rows-keep, row-rule}
-use Rattle.preset.specs.Width.{number-of, size-of, offset-of, rows-of, entry-size, two}
+use Rattle.preset.specs.Rule.{ThreeRows, row-keeps, rows-keep}
+use Rattle.preset.specs.Width.{rows-of, entry-size, two}
 use Rattle.preset.specs.Format.{Named, rows-bytes, entry}
-use Rattle.preset.specs.Entries.{Claim, claim}
+use Rattle.preset.specs.Entries.{claim}
 use Rattle.preset.proofs.Bytes.{spells}
 use Rattle.preset.proofs.Claims.{whole}
 

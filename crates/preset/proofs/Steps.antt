@@ -1,25 +1,20 @@
 -- One entry on, in a file that is read.
 use mathlib.Core.Path.{_≡_, refl, sym, ap, subst, _∙_}
-use mathlib.Core.Bool.{Bool, true, false, cond, _&&_}
-use mathlib.Core.List.{List, [], _∷_, _++_, map}
+use mathlib.Core.List.{List, [], _∷_, map}
 use Prim.Native.Nat.{ℕ, zero, suc, _+_, _*_, _-_, _<_, _≤_}
 use native.Mathlib.Omega.{arith}
 use native.Mathlib.Nat.{add-zero}
 use lib.Dec.{eqb}
 use lib.ListN.{length, take, drop}
-use Rattle.std.proofs.shelf.Lists.{drop-drop, take-rest, length-drop, length-append, length-take-le, map-append, append-assoc, append-nil}
-use Rattle.std.proofs.shelf.Tests.{eq-eqb, ne-eqb}
-use Rattle.preset.specs.Width.{number-of, size-of, rows-of, entry-size}
-use Rattle.preset.specs.Format.{Named, Held, names, base, total, located, header-size}
-use Rattle.preset.specs.Entries.{Claim, claim, claims, claims-in, count-in, plain, fault, faults, unless, decoded, held, numbered, entries-refusal}
-use Rattle.preset.specs.Named.{named, held-as, three-rows}
-use Rattle.preset.specs.Steps.{Passes, Fails, Says, Checks}
-use Rattle.preset.specs.declared.preset.Preset.{Preset}
+use Rattle.std.proofs.shelf.Lists.{drop-drop, take-rest, length-append, length-take-le}
+use Rattle.preset.specs.Width.{number-of, size-of, entry-size}
+use Rattle.preset.specs.Format.{names, base, total, header-size}
+use Rattle.preset.specs.Entries.{Claim, claim, claims, claims-in, count-in, plain, faults, unless, decoded, entries-refusal}
+use Rattle.preset.specs.Steps.{Passes, Fails, Checks}
 use Rattle.preset.specs.declared.refusal.Refusal.{Refusal}
 use Rattle.preset.specs.declared.refusal.Refusal.the-variants.{Name}
 use Rattle.std.specs.declared.option.Option.{Option}
 use Rattle.std.specs.declared.option.Option.the-variants.{Some, None}
-use Rattle.preset.proofs.Claims.{Fit, Meets, meets, claim-fit}
 
 -- the bytes from the entry i on
 abbrev pub entries-from : List ℕ → ℕ → List ℕ

@@ -1,25 +1,23 @@
 -- Both round trips, over lists.
 use mathlib.Core.Path.{_≡_, refl, sym, ap, subst, _∙_}
-use mathlib.Core.Bool.{Bool, true, false, _&&_}
+use mathlib.Core.Bool.{true}
 use mathlib.Core.List.{List, [], _∷_, _++_, map}
 use Prim.Native.Nat.{ℕ, zero, suc, _+_, _*_, _/_, _%_, _<_, _≤_, _-_}
 use native.Mathlib.Omega.{arith}
-use lib.Dec.{leb, ltb, eqb}
+use lib.Dec.{leb, eqb}
 use lib.ListN.{length, getD, take, drop}
 use lib.Seq.{take-add}
-use Rattle.std.proofs.shelf.Lists.{drop-drop, append-assoc, append-nil, length-append, take-at, drop-at, length-map, length-drop, length-take-le, take-append-drop, nil-from-length, getD-drop}
+use Rattle.std.proofs.shelf.Lists.{drop-drop, append-assoc, append-nil, length-append, drop-at, length-drop, length-take-le, take-append-drop, nil-from-length, getD-drop}
 use Rattle.std.proofs.shelf.Tests.{and-parts, and-from, le-leb, eq-eqb, leb-true, eqb-true}
-use Rattle.preset.specs.Rule.{rows-keep}
-use Rattle.preset.specs.Width.{number-of, size-of, offset-of, rows-of, entry-size, two, version, two-bytes}
+use Rattle.preset.specs.Width.{number-of, size-of, rows-of, entry-size, two, version}
 use Rattle.preset.specs.Format.{Named, rows-bytes, entry, entries, names, base, total, header, header-size, encoded}
 use Rattle.preset.specs.Entries.{Claim, claim, claims, claims-in, count-in, count-fits, decoded, plain, faults, unless, first-refusal, entries-refusal}
 use Rattle.preset.specs.Valid.{Valid, FileOf}
 use Rattle.preset.specs.declared.refusal.Refusal.{Refusal}
 use Rattle.preset.specs.declared.refusal.Refusal.the-variants.{Length, Version, Count, Name}
-use Rattle.std.specs.declared.option.Option.{Option}
 use Rattle.std.specs.declared.option.Option.the-variants.{Some, None}
 use Rattle.preset.proofs.Bytes.{spells}
-use Rattle.preset.proofs.Claims.{clash, passed, Meets, meets, claim-fit, faults-next, faults-clear, faults-none, whole, whole-plain, plain-whole, fine-from, valid-from, count-fit, count-parts}
+use Rattle.preset.proofs.Claims.{clash, passed, meets, claim-fit, faults-next, faults-none, whole, whole-plain, plain-whole, fine-from, valid-from, count-fit, count-parts}
 use Rattle.preset.proofs.EntryBytes.{claim-back, entry-long, entry-parts}
 use Rattle.preset.proofs.Steps.{length-claims}
 

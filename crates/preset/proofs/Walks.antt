@@ -1,25 +1,23 @@
 -- A walk over the entries of an accepted file.
 use mathlib.Core.Path.{_≡_, refl, sym, ap, subst, _∙_}
-use mathlib.Core.Bool.{Bool, true, false, cond, _&&_}
+use mathlib.Core.Bool.{true}
 use mathlib.Core.List.{List, [], _∷_, _++_, map}
-use Prim.Native.Nat.{ℕ, zero, suc, _+_, _*_, _-_, _<_, _≤_}
+use Prim.Native.Nat.{ℕ, _+_, _*_, _-_, _<_, _≤_}
 use native.Mathlib.Omega.{arith}
-use lib.Dec.{eqb, leb}
+use lib.Dec.{leb}
 use lib.ListN.{length, take, drop}
 use Rattle.std.proofs.shelf.Lists.{take-rest, length-drop, length-take-le, map-append, append-assoc, length-map}
 use Rattle.std.proofs.shelf.Tests.{eq-eqb, ne-eqb, le-leb}
 use Rattle.preset.specs.Rule.{rows-keep}
 use Rattle.preset.specs.Width.{number-of, size-of, rows-of, entry-size}
 use Rattle.preset.specs.Format.{Named, Held, base, total, located, header-size, encoded}
-use Rattle.preset.specs.Entries.{Claim, claim, claims, claims-in, count-in, count-fits, plain, faults, unless, decoded, held, numbered, first-refusal}
-use Rattle.preset.specs.Named.{named, all-named, held-as, part, three-rows, claimed, LiesIn, AllLieIn, write-refusal}
+use Rattle.preset.specs.Entries.{Claim, claim, claims, count-in, count-fits, plain, faults, unless, decoded, held, numbered, first-refusal}
+use Rattle.preset.specs.Presets.{named, all-named, held-as, part, claimed, AllLieIn}
 use Rattle.preset.specs.Steps.{Says, Lies, inside}
 use Rattle.preset.specs.Calls.{Lists}
 use Rattle.preset.specs.declared.preset.Preset.{Preset}
-use Rattle.preset.specs.declared.refusal.Refusal.{Refusal}
-use Rattle.preset.specs.declared.refusal.Refusal.the-variants.{Count, Room}
-use Rattle.std.specs.declared.option.Option.{Option}
-use Rattle.std.specs.declared.option.Option.the-variants.{Some, None}
+use Rattle.preset.specs.declared.refusal.Refusal.the-variants.{Room}
+use Rattle.std.specs.declared.option.Option.the-variants.{None}
 use Rattle.preset.proofs.Claims.{Meets, meets, claim-fit, faults-clear, whole, whole-plain, count-fit}
 use Rattle.preset.proofs.Steps.{entries-from, claims-from, claims-more, claims-done, claims-start}
 use Rattle.preset.proofs.Trips.{Bytes, accepted, decoded-fine, decoded-valid, encoded-decoded}

@@ -1,16 +1,15 @@
 -- What the writer's proofs share.
-use mathlib.Core.Path.{_≡_, refl, sym, ap, subst, _∙_}
-use mathlib.Core.Bool.{true}
+use mathlib.Core.Path.{_≡_, sym, ap, subst, _∙_}
 use mathlib.Core.List.{List, [], _∷_, _++_, map}
-use Prim.Native.Nat.{ℕ, _+_, _*_, _-_, _<_, _≤_}
+use Prim.Native.Nat.{ℕ, _+_, _-_, _<_, _≤_}
 use native.Mathlib.Omega.{arith}
 use lib.ListN.{length, getD, take, drop}
 use Rattle.std.proofs.shelf.Lists.{drop-drop, append-assoc, length-append, drop-more, length-map, append-nil, take-append-drop, take-at}
-use Rattle.preset.specs.Width.{number-bytes, two-bytes, entry-size}
-use Rattle.preset.specs.Format.{Named, rows-bytes, entries, names, base, total, header, encoded}
+use Rattle.preset.specs.Width.{number-bytes, two-bytes}
+use Rattle.preset.specs.Format.{rows-bytes, entries, names, base, total, header, encoded}
 use Rattle.preset.specs.Entries.{faults}
-use Rattle.preset.specs.Valid.{Valid, FileOf}
-use Rattle.preset.specs.Named.{named, all-named, claimed, part, three-rows}
+use Rattle.preset.specs.Valid.{Valid}
+use Rattle.preset.specs.Presets.{named, all-named, claimed, part, three-rows}
 use Rattle.preset.specs.Steps.{Passes, Fails, Lies, inside}
 use Rattle.preset.specs.declared.preset.Preset.{Preset}
 use Rattle.preset.specs.declared.refusal.Refusal.{Refusal}

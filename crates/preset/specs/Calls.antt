@@ -8,7 +8,7 @@ use lib.ListN.{length, take, drop}
 use Rattle.preset.specs.Format.{Named, encoded, total}
 use Rattle.preset.specs.Entries.{first-refusal, decoded, held, numbered, unless}
 use Rattle.preset.specs.Valid.{FileOf}
-use Rattle.preset.specs.Named.{all-named, held-as, part, LiesIn, AllLieIn, write-refusal}
+use Rattle.preset.specs.Presets.{all-named, held-as, part, LiesIn, AllLieIn, write-refusal}
 use Rattle.preset.specs.declared.preset.Place.{Place}
 use Rattle.preset.specs.declared.preset.Preset.{Preset}
 use Rattle.preset.specs.declared.file.PresetFile.{PresetFile}

@@ -1,5 +1,4 @@
 -- What is wrong with the entries of a file, or with a list of presets that is to be written: the first refusal, in order.
-use mathlib.Core.Path.{_≡_}
 use mathlib.Core.Bool.{Bool, true, false, cond, _&&_}
 use mathlib.Core.List.{List, [], _∷_, map}
 use Prim.Native.Nat.{ℕ, zero, suc, _+_}
@@ -7,7 +6,7 @@ use lib.Dec.{leb, ltb, eqb}
 use lib.ListN.{length, getD, take, drop}
 use Rattle.preset.specs.Rule.{ThreeRows, rows-keep}
 use Rattle.preset.specs.Width.{version, number-of, offset-of, size-of, rows-of, entry-size, two}
-use Rattle.preset.specs.Format.{Named, Held, header-size, base, total, located, encoded}
+use Rattle.preset.specs.Format.{Named, Held, header-size, base, total, located}
 use Rattle.preset.specs.declared.refusal.Refusal.{Refusal}
 use Rattle.preset.specs.declared.refusal.Refusal.the-variants.{Length, Version, Count, Number, Name, Rows}
 use Rattle.std.specs.declared.option.Option.{Option}

@@ -5,6 +5,6 @@ pub mod Format
 pub mod Entries
 pub mod Valid
 pub mod Standard
-pub mod Named
+pub mod Presets
 pub mod Steps
 pub mod Calls

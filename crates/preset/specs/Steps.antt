@@ -2,13 +2,13 @@
 use mathlib.Core.Path.{_≡_}
 use mathlib.Core.Bool.{true, false}
 use mathlib.Core.List.{List, [], _∷_, map}
-use Prim.Native.Nat.{ℕ, _+_, _≤_, _<_}
+use Prim.Native.Nat.{ℕ, _≤_, _<_}
 use lib.ListN.{length}
 use Rattle.preset.specs.Rule.{rows-keep}
 use Rattle.preset.specs.Width.{number-of, size-of, rows-of}
 use Rattle.preset.specs.Format.{total}
 use Rattle.preset.specs.Entries.{Claim, claim, fault, faults}
-use Rattle.preset.specs.Named.{three-rows, claimed, all-named, LiesIn}
+use Rattle.preset.specs.Presets.{three-rows, claimed, all-named, LiesIn}
 use Rattle.preset.specs.declared.preset.Preset.{Preset}
 use Rattle.preset.specs.declared.preset.Rows.{Rows as PresetRows}
 use Rattle.preset.specs.declared.refusal.Refusal.{Refusal}

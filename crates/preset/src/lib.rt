@@ -23,6 +23,7 @@ pub use refusal::RefusalDebug;
 pub use refusal::RefusalEq;
 pub use refusal::RefusalPartialEq;
 pub use row::Row;
+pub use row::RowFields;
 pub use units::Kmh;
 pub use units::Seconds;
 pub use writing::write;

@@ -1,5 +1,5 @@
 // The three programmes: O for trains that brake well, M, and U for those that brake badly.
-#[derive(Clone, Copy, PartialEq, Eq, Debug)]
+#[derive(Clone, Copy)]
 pub enum Programme {
     O,
     M,

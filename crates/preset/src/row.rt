@@ -1,6 +1,8 @@
 ghost use mathlib.Core.Bool.{true};
 ghost use mathlib.Core.Path.{_≡_};
 ghost use Rattle.preset.specs.Rule.{row-rule};
+use crate::Kmh;
+use crate::Seconds;
 
 mod fields;
 mod make;
@@ -19,4 +21,16 @@ pub struct Row {
     rhigh: u8,
     rlow: u8,
     ghost rule: { row-rule top low fall high5 low5 rhigh rlow ≡ true },
+}
+
+// The numbers of a row by their names. Where a `Row` is wanted, only a row will do.
+#[derive(Clone, Copy)]
+pub struct RowFields {
+    pub top: Kmh,
+    pub low: Kmh,
+    pub fall: Seconds,
+    pub high5: Kmh,
+    pub low5: Kmh,
+    pub rhigh: Kmh,
+    pub rlow: Kmh,
 }

@@ -1,7 +1,7 @@
 ghost use mathlib.Core.Bool.{true};
 ghost use mathlib.Core.Path.{_≡_};
 ghost use Rattle.preset.specs.Rule.{pzb90, row-of, rows-keep};
-ghost use Rattle.preset.specs.Named.{row-numbers, named};
+ghost use Rattle.preset.specs.Presets.{LiesIn, named, row-numbers};
 ghost use Rattle.preset.specs.Standard.{standard};
 ghost use lib.Chars.{codes};
 use crate::Place;
@@ -39,7 +39,8 @@ impl Preset {
 
     // The PZB 90 preset: number 1, `Standard`, and the rows of the table.
     pub fn pzb90() -> Preset
-        ensures preset { λ r. ⌜ named (codes "Standard") r ≡ standard ⌝ }
+        ensures preset { λ r. ⌜ named (codes "Standard") r ≡ standard ⌝ ∗ ⌜ LiesIn (codes "Standard") (r .name) ⌝ }
+        ensures name_text { λ _. do ⌜ (← ⟦Preset::PZB90_NAME⟧ .entry) ≡ codes "Standard" ⌝ }
         ensures table_keeps_the_rule { λ _. ⌜ rows-keep pzb90 ≡ true ⌝ }
     {
         let rows = Rows {

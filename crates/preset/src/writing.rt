@@ -4,7 +4,7 @@ ghost use Prim.Native.Nat.{_≤_, _+_, _<_};
 ghost use lib.ListN.{length, take, drop};
 ghost use Rattle.preset.specs.Calls.{ReadBack, Wrote};
 ghost use Rattle.preset.specs.Format.{encoded, rows-bytes, total};
-ghost use Rattle.preset.specs.Named.{all-named, three-rows};
+ghost use Rattle.preset.specs.Presets.{all-named, three-rows};
 ghost use Rattle.preset.specs.Steps.{Admits, Measures, inside};
 ghost use Rattle.preset.specs.Width.{entry-size, number-bytes, two-bytes};
 use crate::Preset;
@@ -74,6 +74,7 @@ fn put_entry(buffer: &mut [u8], pos: usize, preset: &Preset, at: usize) -> usize
     ensures front { λ r. ⌜ take r (now (buffer .exit)) ≡ take pos (now (buffer .entry)) ++ (number-bytes (now (preset .entry) .number .value) ++ (two-bytes at ++ (now (preset .entry) .name .length ∷ rows-bytes (three-rows (now (preset .entry) .rows))))) ⌝ }
     ensures back { λ r. ⌜ drop r (now (buffer .exit)) ≡ drop r (now (buffer .entry)) ⌝ }
 {
+    // each place is named by what comes there
     let name = put(buffer, pos, &preset.number.bytes());
     let rows = put(
         buffer,

@@ -1,7 +1,8 @@
+use crate::samples::Case;
 use crate::samples::PAIR;
 use crate::samples::STANDARD;
 use crate::samples::built;
-use crate::samples::edited;
+use crate::samples::check_cases;
 use crate::samples::outcome;
 use preset::Place;
 use preset::Preset;
@@ -9,108 +10,198 @@ use preset::PresetNumber;
 use preset::read;
 use std::test::*;
 
+// Of the file of one preset.
+const HEADER: [Case; 14] = [
+    Case {
+        edits: [(5, 39), (5, 39)],
+        outcome: (0, 0),
+    }, // as it was
+    Case {
+        edits: [(5, 38), (5, 38)],
+        outcome: (1, 0),
+    }, // a length that is one less
+    Case {
+        edits: [(5, 40), (5, 40)],
+        outcome: (1, 0),
+    }, // one more
+    Case {
+        edits: [(4, 1), (4, 1)],
+        outcome: (1, 0),
+    }, // 256 more
+    Case {
+        edits: [(0, 2), (5, 40)],
+        outcome: (1, 0),
+    }, // the length before the version
+    Case {
+        edits: [(0, 0), (0, 0)],
+        outcome: (2, 0),
+    }, // version 0
+    Case {
+        edits: [(0, 2), (0, 2)],
+        outcome: (2, 0),
+    }, // version 2
+    Case {
+        edits: [(0, 2), (1, 0)],
+        outcome: (2, 0),
+    }, // the version before the count
+    Case {
+        edits: [(1, 0), (1, 0)],
+        outcome: (3, 0),
+    }, // no presets
+    Case {
+        edits: [(1, 2), (1, 2)],
+        outcome: (3, 0),
+    }, // entries past the end
+    Case {
+        edits: [(3, 5), (3, 5)],
+        outcome: (3, 0),
+    }, // entries at 5
+    Case {
+        edits: [(3, 7), (3, 7)],
+        outcome: (3, 0),
+    }, // entries at 7
+    Case {
+        edits: [(2, 1), (2, 1)],
+        outcome: (3, 0),
+    }, // entries at 262
+    Case {
+        edits: [(3, 7), (6, 0)],
+        outcome: (3, 0),
+    }, // the offset before the number
+];
+
+const ENTRY: [Case; 18] = [
+    Case {
+        edits: [(6, 0), (6, 0)],
+        outcome: (4, 1),
+    }, // number 0
+    Case {
+        edits: [(6, 255), (6, 255)],
+        outcome: (0, 0),
+    }, // number 255
+    Case {
+        edits: [(6, 0), (9, 0)],
+        outcome: (4, 1),
+    }, // the number before the name
+    Case {
+        edits: [(9, 0), (9, 0)],
+        outcome: (5, 1),
+    }, // no name
+    Case {
+        edits: [(9, 9), (9, 9)],
+        outcome: (5, 1),
+    }, // a name past the end
+    Case {
+        edits: [(9, 7), (9, 7)],
+        outcome: (5, 1),
+    }, // a byte left over
+    Case {
+        edits: [(8, 30), (8, 30)],
+        outcome: (5, 1),
+    }, // a name too early
+    Case {
+        edits: [(8, 32), (8, 32)],
+        outcome: (5, 1),
+    }, // a name too late
+    Case {
+        edits: [(7, 1), (7, 1)],
+        outcome: (5, 1),
+    }, // a name 256 too late
+    Case {
+        edits: [(31, 32), (31, 32)],
+        outcome: (0, 0),
+    }, // a name that begins with byte 32
+    Case {
+        edits: [(31, 31), (31, 31)],
+        outcome: (5, 1),
+    }, // with byte 31
+    Case {
+        edits: [(38, 126), (38, 126)],
+        outcome: (0, 0),
+    }, // a name that ends with byte 126
+    Case {
+        edits: [(38, 127), (38, 127)],
+        outcome: (5, 1),
+    }, // with byte 127
+    Case {
+        edits: [(31, 127), (10, 251)],
+        outcome: (5, 1),
+    }, // the name before the rows
+    Case {
+        edits: [(10, 250), (10, 250)],
+        outcome: (0, 0),
+    }, // top 250 in O
+    Case {
+        edits: [(10, 251), (10, 251)],
+        outcome: (6, 1),
+    }, // top 251 in O
+    Case {
+        edits: [(19, 61), (19, 61)],
+        outcome: (6, 1),
+    }, // fall 61 in M
+    Case {
+        edits: [(30, 0), (30, 0)],
+        outcome: (6, 1),
+    }, // rlow 0 in U
+];
+
+// Of the file of two presets.
+const ENTRIES: [Case; 8] = [
+    Case {
+        edits: [(31, 4), (31, 4)],
+        outcome: (0, 0),
+    }, // number 4 after 3
+    Case {
+        edits: [(31, 3), (31, 3)],
+        outcome: (4, 2),
+    }, // 3 after 3
+    Case {
+        edits: [(31, 2), (31, 2)],
+        outcome: (4, 2),
+    }, // 2 after 3
+    Case {
+        edits: [(33, 56), (33, 56)],
+        outcome: (5, 2),
+    }, // names that overlap
+    Case {
+        edits: [(34, 1), (34, 1)],
+        outcome: (5, 2),
+    }, // a byte left over
+    Case {
+        edits: [(35, 251), (35, 251)],
+        outcome: (6, 2),
+    }, // top 251 in the second O
+    Case {
+        edits: [(10, 251), (31, 0)],
+        outcome: (6, 1),
+    }, // the first entry before the second
+    Case {
+        edits: [(55, 0), (34, 1)],
+        outcome: (6, 2),
+    }, // the rows before what is left over
+];
+
 #[test]
-fn whole_files_are_read() -> Result<(), Fail> {
-    check_eq(outcome(&STANDARD), (0, None))?;
-    check_eq(outcome(&PAIR), (0, None))
+fn each_refusal_in_its_order(rt: LibcRuntime) -> Result<(), Fail> {
+    let heap = rt.alloc();
+    check_cases(heap, &STANDARD, &HEADER)?;
+    check_cases(heap, &STANDARD, &ENTRY)?;
+    check_cases(heap, &PAIR, &ENTRIES)
 }
 
 #[test]
-fn the_length_is_the_first_thing(rt: LibcRuntime) -> Result<(), Fail> {
-    let heap = rt.alloc();
-    check_eq(outcome(&[]), (1, None)).note("nothing at all")?;
-    check_eq(outcome(&[1, 1, 0, 6, 0]), (1, None)).note("five bytes")?;
-    check_eq(outcome(&[1, 1, 0, 6, 0, 6]), (3, None)).note(
-        "six bytes are a header with no entries",
-    )?;
-    check_eq(edited(heap, &STANDARD, &[(5, 38)])?, (1, None))?;
-    check_eq(edited(heap, &STANDARD, &[(5, 40)])?, (1, None))?;
-    check_eq(edited(heap, &STANDARD, &[(4, 1)])?, (1, None))?;
-    check_eq(edited(heap, &STANDARD, &[(0, 2), (5, 40)])?, (1, None)).note(
-        "the length before the version",
-    )
-}
-
-#[test]
-fn the_header_comes_next(rt: LibcRuntime) -> Result<(), Fail> {
-    let heap = rt.alloc();
-    check_eq(edited(heap, &STANDARD, &[(0, 0)])?, (2, None))?;
-    check_eq(edited(heap, &STANDARD, &[(0, 2)])?, (2, None))?;
-    check_eq(edited(heap, &STANDARD, &[(0, 2), (1, 0)])?, (2, None)).note(
-        "the version before the count",
-    )?;
-    check_eq(edited(heap, &STANDARD, &[(1, 0)])?, (3, None)).note("no presets")?;
-    check_eq(edited(heap, &STANDARD, &[(1, 33)])?, (3, None)).note("33 presets")?;
-    check_eq(edited(heap, &STANDARD, &[(1, 2)])?, (3, None)).note("entries past the end")?;
-    check_eq(edited(heap, &STANDARD, &[(3, 5)])?, (3, None))?;
-    check_eq(edited(heap, &STANDARD, &[(3, 7)])?, (3, None))?;
-    check_eq(edited(heap, &STANDARD, &[(2, 1)])?, (3, None))?;
-    check_eq(edited(heap, &STANDARD, &[(3, 7), (6, 0)])?, (3, None)).note(
-        "the offset before the number",
-    )
+fn short_inputs() -> Result<(), Fail> {
+    check_eq(outcome(&[]), (1, 0))?;
+    check_eq(outcome(&[1, 1, 0, 6, 0]), (1, 0)).note("five bytes")?;
+    check_eq(outcome(&[1, 1, 0, 6, 0, 6]), (3, 0)).note("a header with no entries")
 }
 
 #[test]
 fn the_count_is_1_to_32(rt: LibcRuntime) -> Result<(), Fail> {
     let heap = rt.alloc();
-    check_eq(outcome(built(heap, 1)?.as_slice()), (0, None))?;
-    check_eq(outcome(built(heap, 32)?.as_slice()), (0, None))?;
-    check_eq(outcome(built(heap, 33)?.as_slice()), (3, None))
-}
-
-#[test]
-fn numbers_rise(rt: LibcRuntime) -> Result<(), Fail> {
-    let heap = rt.alloc();
-    check_eq(edited(heap, &STANDARD, &[(6, 0)])?, (4, Some(1)))?;
-    check_eq(edited(heap, &STANDARD, &[(6, 255)])?, (0, None))?;
-    check_eq(edited(heap, &PAIR, &[(31, 4)])?, (0, None)).note("4 after 3")?;
-    check_eq(edited(heap, &PAIR, &[(31, 3)])?, (4, Some(2))).note("3 after 3")?;
-    check_eq(edited(heap, &PAIR, &[(31, 2)])?, (4, Some(2))).note("2 after 3")?;
-    check_eq(edited(heap, &STANDARD, &[(6, 0), (9, 0)])?, (4, Some(1))).note(
-        "the number before the name",
-    )
-}
-
-#[test]
-fn names_fit(rt: LibcRuntime) -> Result<(), Fail> {
-    let heap = rt.alloc();
-    check_eq(edited(heap, &STANDARD, &[(9, 0)])?, (5, Some(1))).note("no name")?;
-    check_eq(edited(heap, &STANDARD, &[(9, 9)])?, (5, Some(1))).note("a name past the end")?;
-    check_eq(edited(heap, &STANDARD, &[(9, 7)])?, (5, Some(1))).note("a byte left over")?;
-    check_eq(edited(heap, &STANDARD, &[(8, 30)])?, (5, Some(1))).note("a name too early")?;
-    check_eq(edited(heap, &STANDARD, &[(8, 32)])?, (5, Some(1))).note("a name too late")?;
-    check_eq(edited(heap, &STANDARD, &[(7, 1)])?, (5, Some(1))).note("the offset's high byte")?;
-    check_eq(edited(heap, &PAIR, &[(33, 56)])?, (5, Some(2))).note("names that overlap")?;
-    check_eq(edited(heap, &PAIR, &[(34, 1)])?, (5, Some(2))).note("left over behind the last entry")
-}
-
-#[test]
-fn name_bytes_are_printable(rt: LibcRuntime) -> Result<(), Fail> {
-    let heap = rt.alloc();
-    check_eq(edited(heap, &STANDARD, &[(31, 32)])?, (0, None))?;
-    check_eq(edited(heap, &STANDARD, &[(31, 31)])?, (5, Some(1)))?;
-    check_eq(edited(heap, &STANDARD, &[(38, 126)])?, (0, None))?;
-    check_eq(edited(heap, &STANDARD, &[(38, 127)])?, (5, Some(1)))?;
-    check_eq(
-        edited(heap, &STANDARD, &[(31, 127), (10, 251)])?,
-        (5, Some(1)),
-    ).note("the name before the rows")
-}
-
-#[test]
-fn rows_keep_the_rule(rt: LibcRuntime) -> Result<(), Fail> {
-    let heap = rt.alloc();
-    check_eq(edited(heap, &STANDARD, &[(10, 250)])?, (0, None))?;
-    check_eq(edited(heap, &STANDARD, &[(10, 251)])?, (6, Some(1))).note("top in O")?;
-    check_eq(edited(heap, &STANDARD, &[(19, 61)])?, (6, Some(1))).note("fall in M")?;
-    check_eq(edited(heap, &STANDARD, &[(30, 0)])?, (6, Some(1))).note("rlow in U")?;
-    check_eq(edited(heap, &PAIR, &[(35, 251)])?, (6, Some(2))).note("top in the second O")?;
-    check_eq(edited(heap, &PAIR, &[(10, 251), (31, 0)])?, (6, Some(1))).note(
-        "the first entry before the second",
-    )?;
-    check_eq(edited(heap, &PAIR, &[(55, 0), (34, 1)])?, (6, Some(2))).note(
-        "the rows before what is left over",
-    )
+    check_eq(outcome(built(heap, 1)?.as_slice()), (0, 0))?;
+    check_eq(outcome(built(heap, 32)?.as_slice()), (0, 0))?;
+    check_eq(outcome(built(heap, 33)?.as_slice()), (3, 0))
 }
 
 #[test]
@@ -132,35 +223,24 @@ fn a_preset_is_found_by_its_number(rt: LibcRuntime) -> Result<(), Fail> {
     check_eq(found.rows.u.numbers(), [45, 45, 1, 45, 1, 1, 1])
 }
 
+// Places in the file of one preset, and what stands there.
+const PLACES: [(usize, usize, Option<&[u8]>); 5] = [
+    (31, 8, Some(b"Standard")),
+    (31, 9, None),
+    (39, 0, Some(b"")),
+    (40, 0, None),
+    (usize::MAX, usize::MAX, None),
+];
+
 #[test]
 fn a_name_outside_the_file_is_nothing() -> Result<(), Fail> {
     let Ok(file) = read(&STANDARD) else {
         return Err(Fail::new("the file is refused"));
     };
     let mut preset = Preset::pzb90();
-    preset.name = Place {
-        offset: 31,
-        length: 8,
-    };
-    check(file.name(&preset) == Some(b"Standard"))?;
-    preset.name = Place {
-        offset: 31,
-        length: 9,
-    };
-    check(file.name(&preset).is_none())?;
-    preset.name = Place {
-        offset: 39,
-        length: 0,
-    };
-    check(file.name(&preset) == Some(b""))?;
-    preset.name = Place {
-        offset: 40,
-        length: 0,
-    };
-    check(file.name(&preset).is_none())?;
-    preset.name = Place {
-        offset: usize::MAX,
-        length: usize::MAX,
-    };
-    check(file.name(&preset).is_none())
+    for (offset, length, name) in PLACES {
+        preset.name = Place { offset, length };
+        check(file.name(&preset) == name)?;
+    }
+    Ok(())
 }

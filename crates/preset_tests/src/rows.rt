@@ -66,12 +66,10 @@ fn pzb90_rows() -> Result<(), Fail> {
 
 #[test]
 fn a_row_by_its_fields() -> Result<(), Fail> {
-    let row = Preset::pzb90().row(Programme::O);
-    check_eq(row.top().value, 165)?;
-    check_eq(row.low().value, 85)?;
-    check_eq(row.fall().value, 23)?;
-    check_eq(row.high5().value, 65)?;
-    check_eq(row.low5().value, 45)?;
-    check_eq(row.rhigh().value, 45)?;
-    check_eq(row.rlow().value, 25)
+    let row = Preset::pzb90().row(Programme::O).fields();
+    let speeds = [row.top, row.low, row.high5, row.low5, row.rhigh, row.rlow];
+    for (speed, value) in speeds.iter().zip([165, 85, 65, 45, 45, 25]) {
+        check_eq(speed.value, value)?;
+    }
+    check_eq(row.fall.value, 23)
 }

@@ -1,9 +1,10 @@
 use preset::read;
 use std::alloc::AllocError;
 use std::alloc::Global;
+use std::test::*;
 
 // The file of the PZB 90 preset, number 1, `Standard`.
-pub const STANDARD: [u8; 39] = [
+pub(crate) const STANDARD: [u8; 39] = [
     1,
     1,
     0,
@@ -46,7 +47,7 @@ pub const STANDARD: [u8; 39] = [
 ];
 
 // Two presets, 3 `A` and 200 `BC`.
-pub const PAIR: [u8; 59] = [
+pub(crate) const PAIR: [u8; 59] = [
     1,
     2,
     0,
@@ -108,31 +109,38 @@ pub const PAIR: [u8; 59] = [
     67, // A, BC
 ];
 
-// The number of the refusal and its entry, or 0 where the bytes are read.
-pub fn outcome(bytes: &[u8]) -> (u8, Option<u8>) {
+// A change of some bytes, and what comes of reading them: the number of the refusal, or 0 where they are read, and its entry,
+// or 0 where it names none.
+#[derive(Clone, Copy)]
+pub(crate) struct Case {
+    // a place and a value, twice
+    pub edits: [(usize, u8); 2],
+    pub outcome: (u8, u8),
+}
+
+pub(crate) fn outcome(bytes: &[u8]) -> (u8, u8) {
     match read(bytes) {
-        Ok(_) => (0, None),
-        Err(e) => (e.number(), e.entry()),
+        Ok(_) => (0, 0),
+        Err(e) => (e.number(), e.entry().unwrap_or(0)),
     }
 }
 
-// The same of bytes with some of them changed: each edit is a place and a value.
-pub fn edited(
-    heap: Global,
-    bytes: &[u8],
-    edits: &[(usize, u8)],
-) -> Result<(u8, Option<u8>), AllocError> {
-    let mut copy = bytes.to_vec(heap)?;
-    for (at, value) in edits {
-        if let Some(b) = copy.get_mut(*at) {
-            *b = *value;
+// Changes the bytes by each case in turn, and compares.
+pub(crate) fn check_cases(heap: Global, bytes: &[u8], cases: &[Case]) -> Result<(), Fail> {
+    for case in cases {
+        let mut copy = bytes.to_vec(heap)?;
+        for (at, value) in case.edits {
+            if let Some(b) = copy.get_mut(at) {
+                *b = value;
+            }
         }
+        check_eq(outcome(copy.as_slice()), case.outcome)?;
     }
-    Ok(outcome(copy.as_slice()))
+    Ok(())
 }
 
 // The file of the presets 1 to `count`, each with the PZB 90 rows and the name `A`, put together byte by byte.
-pub fn built(heap: Global, count: u8) -> Result<Vec<u8>, AllocError> {
+pub(crate) fn built(heap: Global, count: u8) -> Result<Vec<u8>, AllocError> {
     let names = 25u16.wrapping_mul(u16::from(count)).wrapping_add(6);
     let [high, low] = names.wrapping_add(u16::from(count)).to_be_bytes();
     let mut file = Vec::new(heap);

@@ -19,24 +19,21 @@ fn preset(number: u8, offset: usize, length: usize) -> Preset {
     }
 }
 
-// What the writer answers of presets over a text, in a buffer of `room` sevens: the length, or the refusal's number and
-// entry; and whether the buffer holds nothing but sevens.
-fn written(
-    heap: Global,
-    presets: &[Preset],
-    text: &[u8],
-    room: usize,
-) -> Result<(Result<usize, (u8, Option<u8>)>, bool), AllocError> {
+// What the writer answers: the file's length, or the refusal's number and its entry, or 0 where it names none.
+type Answer = Result<usize, (u8, u8)>;
+
+// What the writer answers of presets over a text, in a buffer of `room` sevens. Where it refuses, these are still there.
+fn written(heap: Global, presets: &[Preset], text: &[u8], room: usize) -> Result<Answer, Fail> {
     let mut buffer = vec![in heap; 7u8; room]?;
-    let answer = match write(presets, text, buffer.as_mut_slice()) {
-        Ok(length) => Ok(length),
-        Err(e) => Err((e.number(), e.entry())),
-    };
-    let mut untouched = true;
-    for b in buffer.iter() {
-        untouched = untouched && *b == 7;
+    match write(presets, text, buffer.as_mut_slice()) {
+        Ok(length) => Ok(Ok(length)),
+        Err(e) => {
+            for b in buffer.iter() {
+                check_eq(*b, 7)?;
+            }
+            Ok(Err((e.number(), e.entry().unwrap_or(0))))
+        }
     }
-    Ok((answer, untouched))
 }
 
 // The presets 1 to `count`, each named by the whole text.
@@ -71,16 +68,11 @@ fn what_was_read_is_written_again(rt: LibcRuntime) -> Result<(), Fail> {
 #[test]
 fn the_count_is_1_to_32(rt: LibcRuntime) -> Result<(), Fail> {
     let heap = rt.alloc();
-    check_eq(written(heap, &[], b"A", 2000)?, (Err((3, None)), true))?;
-    let most = many(heap, 32, 24)?;
-    check_eq(
-        written(heap, most.as_slice(), b"abcdefghijklmnopqrstuvwx", 1574)?,
-        (Ok(1574), false),
-    ).note("the largest file")?;
+    check_eq(written(heap, &[], b"A", 2000)?, Err((3, 0)))?;
     let over = many(heap, 33, 24)?;
     check_eq(
         written(heap, over.as_slice(), b"abcdefghijklmnopqrstuvwx", 2000)?,
-        (Err((3, None)), true),
+        Err((3, 0)),
     )
 }
 
@@ -100,103 +92,85 @@ fn the_largest_file_is_read(rt: LibcRuntime) -> Result<(), Fail> {
     check(file.name(&last) == Some(b"abcdefghijklmnopqrstuvwx"))
 }
 
+// Two numbers, one after the other.
+const NUMBERS: [(u8, u8, Answer); 4] = [
+    (0, 1, Err((4, 1))),
+    (254, 255, Ok(58)),
+    (8, 8, Err((4, 2))),
+    (8, 7, Err((4, 2))),
+];
+
 #[test]
 fn numbers_rise(rt: LibcRuntime) -> Result<(), Fail> {
-    let heap = rt.alloc();
+    for (first, second, answer) in NUMBERS {
+        check_eq(
+            written(
+                rt.alloc(),
+                &[preset(first, 0, 1), preset(second, 0, 1)],
+                b"A",
+                99,
+            )?,
+            answer,
+        )?;
+    }
     check_eq(
-        written(heap, &[preset(0, 0, 1)], b"A", 99)?,
-        (Err((4, Some(1))), true),
-    )?;
-    check_eq(
-        written(heap, &[preset(255, 0, 1)], b"A", 99)?,
-        (Ok(32), false),
-    )?;
-    check_eq(
-        written(heap, &[preset(8, 0, 1), preset(9, 0, 1)], b"A", 99)?,
-        (Ok(58), false),
-    )?;
-    check_eq(
-        written(heap, &[preset(8, 0, 1), preset(8, 0, 1)], b"A", 99)?,
-        (Err((4, Some(2))), true),
-    )?;
-    check_eq(
-        written(heap, &[preset(0, 0, 0)], b"A", 99)?,
-        (Err((4, Some(1))), true),
+        written(rt.alloc(), &[preset(0, 0, 0)], b"A", 99)?,
+        Err((4, 1)),
     ).note("the number before the name")
 }
 
+// Places in a text of 26 bytes.
+const PLACES: [(usize, usize, Answer); 8] = [
+    (0, 0, Err((5, 1))),
+    (0, 1, Ok(32)),
+    (0, 24, Ok(55)),
+    (0, 25, Err((5, 1))),
+    (25, 1, Ok(32)),
+    (25, 2, Err((5, 1))),
+    (26, 1, Err((5, 1))),
+    (usize::MAX, 24, Err((5, 1))),
+];
+
 #[test]
 fn names_are_places_in_the_text(rt: LibcRuntime) -> Result<(), Fail> {
-    let heap = rt.alloc();
-    let text = b"abcdefghijklmnopqrstuvwxyz";
-    check_eq(
-        written(heap, &[preset(1, 0, 0)], text, 99)?,
-        (Err((5, Some(1))), true),
-    )?;
-    check_eq(
-        written(heap, &[preset(1, 0, 1)], text, 99)?,
-        (Ok(32), false),
-    )?;
-    check_eq(
-        written(heap, &[preset(1, 0, 24)], text, 99)?,
-        (Ok(55), false),
-    )?;
-    check_eq(
-        written(heap, &[preset(1, 0, 25)], text, 99)?,
-        (Err((5, Some(1))), true),
-    )?;
-    check_eq(
-        written(heap, &[preset(1, 25, 1)], text, 99)?,
-        (Ok(32), false),
-    )?;
-    check_eq(
-        written(heap, &[preset(1, 25, 2)], text, 99)?,
-        (Err((5, Some(1))), true),
-    )?;
-    check_eq(
-        written(heap, &[preset(1, 26, 1)], text, 99)?,
-        (Err((5, Some(1))), true),
-    )?;
-    check_eq(
-        written(heap, &[preset(1, usize::MAX, 24)], text, 99)?,
-        (Err((5, Some(1))), true),
-    )
+    for (offset, length, answer) in PLACES {
+        let presets = [preset(1, offset, length)];
+        check_eq(
+            written(rt.alloc(), &presets, b"abcdefghijklmnopqrstuvwxyz", 99)?,
+            answer,
+        )?;
+    }
+    Ok(())
 }
+
+const NAME_BYTES: [(u8, Answer); 4] = [
+    (32, Ok(32)),
+    (31, Err((5, 1))),
+    (126, Ok(32)),
+    (127, Err((5, 1))),
+];
 
 #[test]
 fn name_bytes_are_printable(rt: LibcRuntime) -> Result<(), Fail> {
-    let heap = rt.alloc();
-    check_eq(
-        written(heap, &[preset(1, 0, 1)], &[32], 99)?,
-        (Ok(32), false),
-    )?;
-    check_eq(
-        written(heap, &[preset(1, 0, 1)], &[31], 99)?,
-        (Err((5, Some(1))), true),
-    )?;
-    check_eq(
-        written(heap, &[preset(1, 0, 1)], &[126], 99)?,
-        (Ok(32), false),
-    )?;
-    check_eq(
-        written(heap, &[preset(1, 0, 1)], &[127], 99)?,
-        (Err((5, Some(1))), true),
-    )
+    for (byte, answer) in NAME_BYTES {
+        check_eq(
+            written(rt.alloc(), &[preset(1, 0, 1)], &[byte], 99)?,
+            answer,
+        )?;
+    }
+    Ok(())
 }
 
 #[test]
 fn the_buffer_is_long_enough(rt: LibcRuntime) -> Result<(), Fail> {
     let heap = rt.alloc();
-    check_eq(
-        written(heap, &[preset(1, 0, 8)], b"Standard", 39)?,
-        (Ok(39), false),
-    )?;
+    check_eq(written(heap, &[preset(1, 0, 8)], b"Standard", 39)?, Ok(39))?;
     check_eq(
         written(heap, &[preset(1, 0, 8)], b"Standard", 38)?,
-        (Err((7, None)), true),
+        Err((7, 0)),
     )?;
     check_eq(
         written(heap, &[preset(1, 0, 9)], b"Standard", 38)?,
-        (Err((5, Some(1))), true),
+        Err((5, 1)),
     ).note("the name before the room")
 }

@@ -1,6 +1,6 @@
 ghost use mathlib.Core.Path.{_≡_};
 ghost use Rattle.preset.specs.Rule.{row-of};
-ghost use Rattle.preset.specs.Named.{row-numbers, three-rows};
+ghost use Rattle.preset.specs.Presets.{row-numbers, three-rows};
 use super::Preset;
 use crate::Programme;
 use crate::Row;

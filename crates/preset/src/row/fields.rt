@@ -1,49 +1,38 @@
 ghost use mathlib.Core.Path.{_≡_};
+ghost use Rattle.preset.specs.Presets.{row-fields, row-numbers};
 use super::Row;
+use super::RowFields;
 use crate::Kmh;
 use crate::Seconds;
 
-// The numbers one by one, with their units.
 impl Row {
-    pub fn top(&self) -> Kmh
-        ensures { λ r. ⌜ r .value ≡ now (self .entry) .top ⌝ }
+    // The seven numbers in the file's order.
+    pub fn numbers(&self) -> [u8; 7]
+        ensures { λ r. ⌜ r ≡ row-numbers (now (self .entry)) ⌝ }
     {
-        Kmh { value: self.top }
+        [
+            self.top,
+            self.low,
+            self.fall,
+            self.high5,
+            self.low5,
+            self.rhigh,
+            self.rlow,
+        ]
     }
 
-    pub fn low(&self) -> Kmh
-        ensures { λ r. ⌜ r .value ≡ now (self .entry) .low ⌝ }
+    // The same by their names, with their units.
+    pub fn fields(&self) -> RowFields
+        ensures { λ r. ⌜ r ≡ row-fields (now (self .entry)) ⌝ }
     {
-        Kmh { value: self.low }
-    }
-
-    pub fn fall(&self) -> Seconds
-        ensures { λ r. ⌜ r .value ≡ now (self .entry) .fall ⌝ }
-    {
-        Seconds { value: self.fall }
-    }
-
-    pub fn high5(&self) -> Kmh
-        ensures { λ r. ⌜ r .value ≡ now (self .entry) .high5 ⌝ }
-    {
-        Kmh { value: self.high5 }
-    }
-
-    pub fn low5(&self) -> Kmh
-        ensures { λ r. ⌜ r .value ≡ now (self .entry) .low5 ⌝ }
-    {
-        Kmh { value: self.low5 }
-    }
-
-    pub fn rhigh(&self) -> Kmh
-        ensures { λ r. ⌜ r .value ≡ now (self .entry) .rhigh ⌝ }
-    {
-        Kmh { value: self.rhigh }
-    }
-
-    pub fn rlow(&self) -> Kmh
-        ensures { λ r. ⌜ r .value ≡ now (self .entry) .rlow ⌝ }
-    {
-        Kmh { value: self.rlow }
+        RowFields {
+            top: Kmh { value: self.top },
+            low: Kmh { value: self.low },
+            fall: Seconds { value: self.fall },
+            high5: Kmh { value: self.high5 },
+            low5: Kmh { value: self.low5 },
+            rhigh: Kmh { value: self.rhigh },
+            rlow: Kmh { value: self.rlow },
+        }
     }
 }

@@ -3,7 +3,7 @@ ghost use mathlib.Core.Path.{_≡_};
 ghost use mathlib.Core.List.{_∷_, []};
 ghost use lib.ListN.{length};
 ghost use Rattle.preset.specs.Rule.{row-rule, row-keeps};
-ghost use Rattle.preset.specs.Named.{row-numbers};
+ghost use Rattle.preset.specs.Presets.{row-numbers};
 ghost use Rattle.preset.specs.declared.refusal.Refusal.the-variants.{Rows};
 ghost use Rattle.std.specs.declared.option.Option.the-variants.{Some, None};
 ghost use Rattle.std.specs.declared.result.Result.the-variants.{Ok, Err};
@@ -62,20 +62,5 @@ impl Row {
             Ok(row) => Some(row),
             Err(_) => None,
         }
-    }
-
-    // The seven numbers in the file's order.
-    pub fn numbers(&self) -> [u8; 7]
-        ensures { λ r. ⌜ r ≡ row-numbers (now (self .entry)) ⌝ }
-    {
-        [
-            self.top,
-            self.low,
-            self.fall,
-            self.high5,
-            self.low5,
-            self.rhigh,
-            self.rlow,
-        ]
     }
 }

@@ -1,8 +1,6 @@
-use mathlib.Core.Path.{_≡_}
-use mathlib.Core.List.{_++_}
 use Rattle.std.specs.Of.Vec.{vec-items}
 use Rattle.listing.specs.Report.{title-line, row-line}
-use Rattle.preset.specs.Named.{three-rows}
+use Rattle.preset.specs.Presets.{three-rows}
 use Rattle.preset.specs.declared.programme.Programme.the-variants.{O, M, U}
 use Rattle.listing.proofs.Appends.{then-put}
 use Rattle.listing.proofs.lines.put_preset.Needs as need

@@ -1,9 +1,9 @@
-use mathlib.Core.Path.{_≡_, sym, ap, _∙_}
+use mathlib.Core.Path.{_≡_, ap, _∙_}
 use mathlib.Core.List.{_++_}
 use Rattle.std.specs.Of.Vec.{vec-items}
 use Rattle.listing.specs.Report.{spaced, letter-of}
 use Rattle.preset.specs.Rule.{row-of}
-use Rattle.preset.specs.Named.{three-rows}
+use Rattle.preset.specs.Presets.{three-rows}
 use Rattle.listing.proofs.Appends.{then-put}
 use Rattle.listing.proofs.lines.put_row.Needs as need
 

@@ -1,11 +1,10 @@
-use mathlib.Core.Path.{_≡_, sym, ap, subst, _∙_}
+use mathlib.Core.Path.{_≡_, ap, _∙_}
 use mathlib.Core.Bool.{true}
 use mathlib.Core.List.{_++_}
 use lib.ListN.{length}
 use Rattle.std.specs.Of.Vec.{vec-items}
-use Rattle.preset.specs.Calls.{Lists}
 use Rattle.preset.specs.Entries.{decoded}
-use Rattle.preset.specs.Named.{all-named}
+use Rattle.preset.specs.Presets.{all-named}
 use Rattle.listing.specs.Report.{all-lines, wrote-line}
 use Rattle.listing.proofs.Appends.{then-put}
 use Rattle.listing.proofs.text.put_file.Needs as need

@@ -5,7 +5,7 @@ use native.Mathlib.Omega.{arith}
 use lib.ListN.{drop}
 use Rattle.std.specs.Of.Vec.{vec-items}
 use Rattle.std.proofs.shelf.Lists.{append-assoc, append-nil, drop-all}
-use Rattle.preset.specs.Named.{all-named, named, three-rows}
+use Rattle.preset.specs.Presets.{all-named, named, three-rows}
 use Rattle.listing.specs.Report.{all-lines, preset-lines}
 use Rattle.listing.proofs.Appends.{lies-here, lines-here}
 use Rattle.listing.proofs.text.put_presets.Needs as need

@@ -3,7 +3,7 @@ use mathlib.Core.List.{_++_}
 use lib.ListN.{drop}
 use denote.Ref.{now}
 use Rattle.std.specs.Of.Vec.{vec-items}
-use Rattle.preset.specs.Named.{all-named, AllLieIn}
+use Rattle.preset.specs.Presets.{all-named, AllLieIn}
 use Rattle.listing.specs.Report.{all-lines}
 use Rattle.listing.proofs.text.put_presets.Given as given
 

@@ -6,7 +6,7 @@ use Rattle.std.proofs.shelf.Equals.{matches-decides}
 use Rattle.std.specs.declared.result.Result.{Result}
 use Rattle.std.specs.declared.result.Result.the-variants.{Ok}
 use Rattle.preset.specs.Format.{encoded}
-use Rattle.preset.specs.Named.{all-named}
+use Rattle.preset.specs.Presets.{all-named}
 use Rattle.preset.specs.declared.refusal.Refusal.{Refusal}
 use Rattle.listing.specs.declared.text.WrittenBack.{WrittenBack}
 use Rattle.listing.proofs.Appends.{front-is}

@@ -1,11 +1,11 @@
-use mathlib.Core.Path.{_≡_, refl, sym, ap, subst, _∙_}
+use mathlib.Core.Path.{refl, sym, ap, subst, _∙_}
 use mathlib.Core.List.{map}
 use native.Mathlib.Omega.{arith}
 use Rattle.std.proofs.shelf.Lists.{drop-all}
 use lib.ListN.{length}
 use Rattle.preset.specs.Format.{names}
 use Rattle.preset.specs.Entries.{faults}
-use Rattle.preset.specs.Named.{all-named, claimed}
+use Rattle.preset.specs.Presets.{all-named, claimed}
 use Rattle.preset.specs.Steps.{inside}
 use Rattle.preset.proofs.Writes.{names-more, inside-add, faults-none-here, faults-here, total-named}
 use Rattle.preset.proofs.writing.measured.Needs as need

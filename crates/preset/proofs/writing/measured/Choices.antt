@@ -4,7 +4,7 @@ use Prim.Native.Nat.{_+_, _*_, _≤_}
 use lib.ListN.{drop, length}
 use Rattle.preset.specs.Format.{base, names, total}
 use Rattle.preset.specs.Entries.{faults}
-use Rattle.preset.specs.Named.{all-named, claimed}
+use Rattle.preset.specs.Presets.{all-named, claimed}
 use Rattle.preset.specs.Steps.{inside}
 use Rattle.preset.specs.declared.refusal.Refusal.{Refusal}
 use Rattle.std.specs.declared.option.Option.{Option}

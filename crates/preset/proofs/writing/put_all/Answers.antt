@@ -1,12 +1,12 @@
 use borrow.Author.Needs.{needs}
 use mathlib.Core.Path.{_≡_, refl, sym, ap, subst, _∙_}
-use mathlib.Core.List.{List, [], _∷_, _++_}
-use Prim.Native.Nat.{ℕ, _+_, _*_, _-_, _/_, _%_, _≤_}
+use mathlib.Core.List.{_++_}
+use Prim.Native.Nat.{_+_, _-_}
 use native.Mathlib.Omega.{arith}
 use lib.ListN.{length, take, drop}
 use Rattle.std.proofs.shelf.Lists.{drop-all}
 use Rattle.preset.specs.Format.{base, names, entries, header, encoded}
-use Rattle.preset.specs.Named.{all-named}
+use Rattle.preset.specs.Presets.{all-named}
 use Rattle.preset.proofs.Walks.{name-long}
 use Rattle.preset.proofs.Writes.{names-more, inside-here, entries-more, names-split, step, finish, encoded-is, total-named, drop-further}
 use Rattle.preset.proofs.writing.put_all.Needs as need

@@ -1,9 +1,9 @@
 use mathlib.Core.Path.{_≡_}
 use mathlib.Core.List.{_++_}
-use Prim.Native.Nat.{_+_, _*_, _≤_}
+use Prim.Native.Nat.{_+_}
 use lib.ListN.{drop, take, length}
 use Rattle.preset.specs.Format.{base, names, entries, header}
-use Rattle.preset.specs.Named.{all-named}
+use Rattle.preset.specs.Presets.{all-named}
 use Rattle.preset.specs.Steps.{inside}
 use Rattle.preset.proofs.writing.put_all.Given as given
 

@@ -1,9 +1,8 @@
-use mathlib.Core.Path.{_≡_, refl, sym, ap, subst, _∙_}
-use mathlib.Core.List.{List, [], _∷_, _++_}
-use Prim.Native.Nat.{ℕ, _/_, _%_}
-use native.Mathlib.Omega.{arith}
+use mathlib.Core.Path.{subst}
+use mathlib.Core.List.{[], _∷_}
+use Prim.Native.Nat.{_/_, _%_}
 use Rattle.preset.specs.Width.{number-bytes}
-use Rattle.preset.specs.Named.{row-numbers}
+use Rattle.preset.specs.Presets.{row-numbers}
 use Rattle.preset.proofs.Writes.{Put, put-two}
 use Rattle.preset.proofs.writing.put_entry.Needs as need
 

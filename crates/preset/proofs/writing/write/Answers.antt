@@ -1,12 +1,10 @@
-use borrow.Author.Needs.{needs}
-use mathlib.Core.Path.{_≡_, refl, sym, ap, _∙_}
+use mathlib.Core.Path.{_≡_}
 use mathlib.Core.Bool.{true}
 use native.Mathlib.Omega.{arith}
-use lib.Dec.{leb}
 use lib.ListN.{length}
 use Rattle.std.proofs.shelf.Tests.{le-leb}
 use Rattle.preset.specs.Entries.{count-fits}
-use Rattle.preset.specs.Named.{write-refusal, claimed, all-named}
+use Rattle.preset.specs.Presets.{all-named}
 use Rattle.preset.specs.Format.{total}
 use Rattle.std.specs.declared.option.Option.the-variants.{None}
 use Rattle.preset.proofs.Claims.{count-fit}

@@ -1,8 +1,7 @@
 use borrow.Author.Needs.{needs}
-use mathlib.Core.Path.{_≡_, sym, ap, _∙_}
+use mathlib.Core.Path.{sym, ap, _∙_}
 use native.Mathlib.Omega.{arith}
 use Rattle.preset.specs.Entries.{numbered}
-use Rattle.preset.proofs.Trips.{accepted}
 use Rattle.preset.proofs.Walks.{stands-first, stands-rows, stands-inside, stands-next, held-first, held-done, found, not-here}
 use Rattle.preset.proofs.file.PresetFile.lookup.Needs as need
 
@@ -21,7 +20,7 @@ returns-then-read-number c =
     let says = c .preset-at .ensures in
     let within = stands-inside b _ (c .loop-i .i) (c .loop-i .at) (omega arith) (c .loop-i .inv .0) (c .preset-at .result .name .length) (says .size) in (
       sym (c .loop-i .inv .1) ∙
-          found b _ (c .loop-i .i) (c .loop-i .at) (omega arith) (c .loop-i .inv .0) (c .args .number .value) (c .read .result .value) (c .read .ensures) (c .preset-at .result) says (c .if-read-number .taken),
+          found b _ (c .loop-i .i) (c .loop-i .at) (omega arith) (c .loop-i .inv .0) (c .args .number .value) (c .read .result .value) (c .read .ensures) (c .preset-at .result) says (omega arith),
       omega (arith, says .offset),
     )
 

@@ -1,12 +1,12 @@
 use borrow.Author.Needs.{needs}
-use mathlib.Core.Path.{_≡_, refl, sym, ap, subst, _∙_}
+use mathlib.Core.Path.{sym, ap, subst, _∙_}
 use mathlib.Core.List.{_++_, map}
 use native.Mathlib.Omega.{arith}
 use Rattle.std.specs.Of.Vec.{vec-items}
 use Rattle.std.proofs.shelf.Lists.{append-nil}
 use Rattle.preset.specs.Entries.{count-in}
 use Rattle.preset.specs.Format.{base}
-use Rattle.preset.specs.Named.{held-as}
+use Rattle.preset.specs.Presets.{held-as}
 use Rattle.preset.specs.Steps.{inside}
 use Rattle.preset.proofs.Walks.{stands-first, stands-rows, stands-inside, stands-short, stands-next, held-from, held-first, held-done, held-next, listed-more, inside-more, lists}
 use Rattle.preset.proofs.file.PresetFile.presets.Needs as need

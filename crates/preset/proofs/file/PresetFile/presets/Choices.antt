@@ -2,7 +2,7 @@ use mathlib.Core.Path.{_≡_}
 use mathlib.Core.List.{_++_, map}
 use Rattle.std.specs.Of.Vec.{vec-items}
 use Rattle.preset.specs.Entries.{held}
-use Rattle.preset.specs.Named.{held-as}
+use Rattle.preset.specs.Presets.{held-as}
 use Rattle.preset.specs.Steps.{inside}
 use Rattle.preset.proofs.Trips.{Bytes}
 use Rattle.preset.proofs.Walks.{Stands, held-from}

@@ -1,14 +1,13 @@
-use mathlib.Core.Path.{_≡_, sym, ap, subst, _∙_}
+use mathlib.Core.Path.{sym, ap, _∙_}
 use mathlib.Core.List.{map}
-use Prim.Native.Nat.{_+_, _≤_}
+use Prim.Native.Nat.{_+_}
 use native.Mathlib.Omega.{arith}
-use lib.Dec.{eqb}
-use lib.ListN.{length, drop}
+use lib.ListN.{length}
 use Rattle.std.proofs.shelf.Lists.{length-drop}
 use Rattle.std.proofs.shelf.Tests.{eq-eqb, ne-eqb}
 use Rattle.preset.specs.Width.{number-of, size-of}
 use Rattle.preset.specs.Format.{base, names}
-use Rattle.preset.specs.Entries.{claims-in, decoded, plain, faults, unless}
+use Rattle.preset.specs.Entries.{plain, faults, unless}
 use Rattle.preset.specs.declared.refusal.Refusal.the-variants.{Name}
 use Rattle.std.specs.declared.option.Option.the-variants.{Some, None}
 use Rattle.preset.proofs.Steps.{claims-start, entries-end, entries-from, claims-from, checks-here, here, faults-on, faults-stop, names-on}

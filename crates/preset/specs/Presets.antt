@@ -7,6 +7,7 @@ use Rattle.preset.specs.Rule.{ThreeRows}
 use Rattle.preset.specs.Format.{Named, Held, total}
 use Rattle.preset.specs.Entries.{Claim, unless, faults, count-fits}
 use Rattle.preset.specs.declared.row.Row.{Row}
+use Rattle.preset.specs.declared.row.RowFields.{RowFields}
 use Rattle.preset.specs.declared.preset.Rows.{Rows}
 use Rattle.preset.specs.declared.preset.Place.{Place}
 use Rattle.preset.specs.declared.preset.Preset.{Preset}
@@ -18,6 +19,18 @@ use Rattle.std.specs.declared.option.Option.the-variants.{None}
 -- a row's numbers in the file's order
 abbrev pub row-numbers : Row → List ℕ
 row-numbers r = r .top ∷ r .low ∷ r .fall ∷ r .high5 ∷ r .low5 ∷ r .rhigh ∷ r .rlow ∷ []
+
+-- the same by their names
+abbrev pub row-fields : Row → RowFields
+row-fields r = record {
+  top = record { value = r .top };
+  low = record { value = r .low };
+  fall = record { value = r .fall };
+  high5 = record { value = r .high5 };
+  low5 = record { value = r .low5 };
+  rhigh = record { value = r .rhigh };
+  rlow = record { value = r .rlow };
+}
 
 abbrev pub three-rows : Rows → ThreeRows
 three-rows r = record { o = row-numbers (r .o); m = row-numbers (r .m); u = row-numbers (r .u) }
