@@ -9,7 +9,7 @@ use Rattle.std.specs.declared.option.Option.{Option}
 use Rattle.std.specs.declared.option.Option.the-variants.{Some, None}
 use Rattle.preset.specs.Entries.{first-refusal, decoded}
 use Rattle.preset.specs.Format.{Named}
-use Rattle.preset.specs.Refusals.{refusal-number, refusal-entry, file-layer}
+use Rattle.preset.specs.Refusals.{refusal-number, refusal-entry, refusal-layer}
 use Rattle.preset.specs.Rule.{ThreeRows, row-of}
 use Rattle.preset.specs.declared.programme.Programme.{Programme}
 use Rattle.preset.specs.declared.programme.Programme.the-variants.{O, M, U}
@@ -53,7 +53,7 @@ entry-word (Some k) = codes " " ++ (decimal k ++ line-end)
 
 -- the refusal's number, its layer, and its entry where it names one
 abbrev pub refusal-line : Refusal → List ℕ
-refusal-line e = codes "no " ++ (decimal (refusal-number e) ++ (codes " " ++ (file-layer ++ entry-word (refusal-entry e))))
+refusal-line e = codes "no " ++ (decimal (refusal-number e) ++ (codes " " ++ (refusal-layer e ++ entry-word (refusal-entry e))))
 
 abbrev pub verdict : Bool → List ℕ
 verdict true = codes "same"

@@ -106,7 +106,7 @@ fn put_file(
     requires { ⌜ Accepted (now file) ⌝ ∗ ⌜ now (now file .bytes) ≡ now bytes ⌝ }
     ensures { λ r. ⌜ made r (λ _. vec-items (now (out .exit)) ≡ vec-items (now (out .entry)) ++ outcome (now (bytes .entry)) None) ⌝ }
 {
-    let presets = file.presets(heap)?;
+    let presets = file.presets();
     put_presets(heap, out, file, presets.as_slice())?;
     put_written(heap, out, bytes, presets.as_slice())?;
     Ok(())

@@ -8,14 +8,15 @@ use native.Mathlib.Omega.{arith}
 use lib.Dec.{leb, ltb, eqb}
 use lib.ListN.{length, take}
 use Rattle.std.proofs.shelf.Tests.{and-from, and-parts, lt-ltb, le-leb, leb-true, ltb-true, eq-eqb, eqb-true, cases-bool}
-use Rattle.preset.specs.Rule.{rows-keep}
+use Rattle.preset.specs.Rule.{ThreeRows, row-keeps, rows-keep}
+use Rattle.preset.specs.Refusals.{row-refusal}
 use Rattle.preset.specs.Width.{offset-of, size-of}
 use Rattle.preset.specs.Format.{Named}
-use Rattle.preset.specs.Entries.{Claim, unless, fault, faults, name-fits, printable, plain, claim, count-fits}
+use Rattle.preset.specs.Entries.{Claim, unless, fault, faults, row-fault, rows-fault, name-fits, printable, plain, claim, count-fits}
 use Rattle.preset.specs.Valid.{Rising, AllSound, Valid}
 use Rattle.preset.specs.Steps.{Passes, Fails}
 use Rattle.preset.specs.declared.refusal.Refusal.{Refusal}
-use Rattle.preset.specs.declared.refusal.Refusal.the-variants.{Number, Name, Rows}
+use Rattle.preset.specs.declared.refusal.Refusal.the-variants.{Number, Name}
 use Rattle.std.specs.declared.option.Option.{Option}
 use Rattle.std.specs.declared.option.Option.the-variants.{Some, None}
 
@@ -59,15 +60,29 @@ claim-fit at es ns f =
     let p = and-parts (eqb (offset-of es) at) (leb (size-of es) (length ns)) (f .placed) in
     (eqb-true (offset-of es) at (p .0), leb-true (size-of es) (length ns) (p .1))
 
+-- three rows that keep the rule are not refused, and back
+pub rows-clear : (k : ℕ) (r : ThreeRows) → rows-keep r ≡ true → (o : Option Refusal) → rows-fault k r o ≡ o
+rows-clear k r h o =
+    let a = and-parts (row-keeps (r .o)) (row-keeps (r .m) && row-keeps (r .u)) h in
+    let b = and-parts (row-keeps (r .m)) (row-keeps (r .u)) (a .1) in
+    rw (a .0, b .0, b .1)
+
+rows-kept : (k : ℕ) (r : ThreeRows) (o : Option Refusal) → rows-fault k r o ≡ None → (rows-keep r ≡ true) × (o ≡ None)
+rows-kept k r o h =
+    let a = passed (row-keeps (r .o)) (row-refusal k (r .o)) (row-fault k (r .m) (row-fault k (r .u) o)) h in
+    let b = passed (row-keeps (r .m)) (row-refusal k (r .m)) (row-fault k (r .u) o) (a .1) in
+    let c = passed (row-keeps (r .u)) (row-refusal k (r .u)) o (b .1) in
+    (and-from (row-keeps (r .o)) _ (a .0) (and-from (row-keeps (r .m)) (row-keeps (r .u)) (b .0) (c .0)), c .1)
+
 module _ (k last : ℕ) (c : Claim) (rising : last < c .number) where
   pub name-fails : name-fits c ≡ false → Fails k last c (Name k)
   name-fails n o = rw (lt-ltb last (c .number) rising, n)
 
-  pub rows-fail : name-fits c ≡ true → rows-keep (c .rows) ≡ false → Fails k last c (Rows k)
-  rows-fail n r o = rw (lt-ltb last (c .number) rising, n, r)
+  pub rows-fail : name-fits c ≡ true → (e : Refusal) → ((o : Option Refusal) → rows-fault k (c .rows) o ≡ Some e) → Fails k last c e
+  rows-fail n e r o = rw (lt-ltb last (c .number) rising, n) (r o)
 
   pub passes : name-fits c ≡ true → rows-keep (c .rows) ≡ true → Passes k last c
-  passes n r o = rw (lt-ltb last (c .number) rising, n, r)
+  passes n r o = rw (lt-ltb last (c .number) rising, n) (rows-clear k (c .rows) r o)
 
 -- and back
 pub record Meets (last : ℕ) (c : Claim) : Type 0 where
@@ -77,9 +92,9 @@ pub record Meets (last : ℕ) (c : Claim) : Type 0 where
 
 pub meets : (k last : ℕ) (c : Claim) (o : Option Refusal) → fault k last c o ≡ None → Meets last c × (o ≡ None)
 meets k last c o h =
-    let a = passed (ltb last (c .number)) (Number k) (unless (name-fits c) (Name k) (unless (rows-keep (c .rows)) (Rows k) o)) h in
-    let b = passed (name-fits c) (Name k) (unless (rows-keep (c .rows)) (Rows k) o) (a .1) in
-    let d = passed (rows-keep (c .rows)) (Rows k) o (b .1) in
+    let a = passed (ltb last (c .number)) (Number k) (unless (name-fits c) (Name k) (rows-fault k (c .rows) o)) h in
+    let b = passed (name-fits c) (Name k) (rows-fault k (c .rows) o) (a .1) in
+    let d = rows-kept k (c .rows) o (b .1) in
     (record { rising = ltb-true last (c .number) (a .0); name = fit c (b .0); rows = d .0 }, d .1)
 
 pub meets-passes : (k last : ℕ) (c : Claim) → Meets last c → Passes k last c

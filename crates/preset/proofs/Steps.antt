@@ -39,17 +39,12 @@ pub length-claims : (left at : ℕ) (es ns : List ℕ) → length (map plain (cl
 length-claims zero at es ns = refl
 length-claims (suc left) at es ns = ap suc (length-claims left (at + size-of es) (drop entry-size es) (drop (size-of es) ns))
 
--- what the code learns of `&bytes[x..]` and `&bytes[at..]`
-module _ (b : List ℕ) (i at : ℕ) where
-  pub checks-here : (k last : ℕ) (r : Option Refusal) →
-      Checks k last at (take (length b - (header-size + entry-size * i)) (entries-from b i)) (take (length b - at) (drop at b)) r →
-      Checks k last at (entries-from b i) (drop at b) r
+-- what the code learns of an entry and of `&bytes[at..]`
+module _ (b : List ℕ) (i at : ℕ) {es′ : List ℕ} (here : es′ ≡ entries-from b i) where
+  pub checks-here : (k last : ℕ) (r : Option Refusal) → Checks k last at es′ (take (length b - at) (drop at b)) r → Checks k last at (entries-from b i) (drop at b) r
   checks-here k last r f =
-      subst (λ xs. Checks k last at xs (drop at b) r) (take-rest b (header-size + entry-size * i))
-      (subst (λ ys. Checks k last at (take (length b - (header-size + entry-size * i)) (entries-from b i)) ys r) (take-rest b at) f)
-
-  pub here : {X : Type 0} (f : List ℕ → X) → f (take (length b - (header-size + entry-size * i)) (entries-from b i)) ≡ f (entries-from b i)
-  here f = ap f (take-rest b (header-size + entry-size * i))
+      subst (λ xs. Checks k last at xs (drop at b) r) here
+      (subst (λ ys. Checks k last at es′ ys r) (take-rest b at) f)
 
 -- one entry on
 module _ (b : List ℕ) (count i at : ℕ) (h : i < count) where

@@ -2,15 +2,15 @@
 use mathlib.Core.Path.{_≡_, refl, sym, ap, subst, _∙_}
 use mathlib.Core.Bool.{true}
 use mathlib.Core.List.{List, [], _∷_, _++_, map}
-use Prim.Native.Nat.{ℕ, _+_, _*_, _-_, _<_, _≤_}
+use Prim.Native.Nat.{ℕ, _+_, _-_, _<_, _≤_}
 use native.Mathlib.Omega.{arith}
 use lib.Dec.{leb}
-use lib.ListN.{length, take, drop}
-use Rattle.std.proofs.shelf.Lists.{take-rest, length-drop, length-take-le, map-append, append-assoc, length-map}
+use lib.ListN.{length, drop}
+use Rattle.std.proofs.shelf.Lists.{length-drop, length-take-le, map-append, append-assoc, length-map}
 use Rattle.std.proofs.shelf.Tests.{eq-eqb, ne-eqb, le-leb}
 use Rattle.preset.specs.Rule.{rows-keep}
-use Rattle.preset.specs.Width.{number-of, size-of, rows-of, entry-size}
-use Rattle.preset.specs.Format.{Named, Held, base, total, located, header-size, encoded}
+use Rattle.preset.specs.Width.{number-of, size-of, rows-of}
+use Rattle.preset.specs.Format.{Named, Held, base, total, located, encoded}
 use Rattle.preset.specs.Entries.{Claim, claim, claims, count-in, count-fits, plain, faults, unless, decoded, held, numbered, first-refusal}
 use Rattle.preset.specs.Presets.{named, all-named, held-as, part, claimed, AllLieIn}
 use Rattle.preset.specs.Steps.{Says, Lies, inside}
@@ -43,16 +43,10 @@ held-first b = ap (λ cs. located (base (count-in b)) (map plain cs)) (claims-st
 pub held-done : (b : List ℕ) (count i at : ℕ) → i ≡ count → held-from b count i at ≡ []
 held-done b count i at h = ap (λ cs. located at (map plain cs)) (claims-done b count i at h)
 
-module _ (b : List ℕ) (count i at : ℕ) (h : i < count) (s : Stands b count i at) where
+-- one entry on, which the code has as es′
+module _ (b : List ℕ) (count i at : ℕ) (h : i < count) (s : Stands b count i at) {es′ : List ℕ} (here : es′ ≡ entries-from b i) where
   abbrev es : List ℕ
   es = entries-from b i
-
-  -- what the code has of `&bytes[x..]`
-  abbrev es′ : List ℕ
-  es′ = take (length b - (header-size + entry-size * i)) (entries-from b i)
-
-  here : es′ ≡ es
-  here = take-rest b (header-size + entry-size * i)
 
   abbrev c : Claim
   c = claim at es (drop at b)
@@ -114,20 +108,20 @@ none-again (c ∷ cs) k last at n l h =
     let r = s .0 .rising in
     rw (ne-eqb (c .number) n (λ e. omega arith)) (none-again cs (k + 1) (c .number) (at + length (c .name)) n (omega arith) (s .1))
 
-module _ (b : List ℕ) (count i at : ℕ) (h : i < count) (s : Stands b count i at) (n number : ℕ) (is : number ≡ number-of (es′ b count i at h s)) where
-  pub found : (p : Preset) → Says at (es′ b count i at h s) p → number ≡ n → numbered n (held-from b count i at) ≡ held-as b p ∷ []
+module _ (b : List ℕ) (count i at : ℕ) (h : i < count) (s : Stands b count i at) {es′ : List ℕ} (here : es′ ≡ entries-from b i) (n number : ℕ) (is : number ≡ number-of es′) where
+  pub found : (p : Preset) → Says at es′ p → number ≡ n → numbered n (held-from b count i at) ≡ held-as b p ∷ []
   found p says e =
       let q : p .number .value ≡ n = says .number ∙ (sym is ∙ e) in
-      let l : n ≡ number-of (es b count i at h s) = sym e ∙ (is ∙ ap number-of (here b count i at h s)) in
-      ap (numbered n) (held-next b count i at h s p says (size-of (es b count i at h s)) (sym (ap size-of (here b count i at h s)))) ∙
-      rw (eq-eqb (p .number .value) n q) (ap (λ t. held-as b p ∷ t) (none-again _ (i + 1) (number-of (es b count i at h s)) _ n (omega arith) (step b count i at h s .1)))
+      let l : n ≡ number-of (entries-from b i) = sym e ∙ (is ∙ ap number-of here) in
+      ap (numbered n) (held-next b count i at h s here p says (size-of (entries-from b i)) (sym (ap size-of here))) ∙
+      rw (eq-eqb (p .number .value) n q) (ap (λ t. held-as b p ∷ t) (none-again _ (i + 1) (number-of (entries-from b i)) _ n (omega arith) (step b count i at h s here .1)))
 
-  pub not-here : (number ≡ n → ⊥) → (size : ℕ) → size ≡ size-of (es′ b count i at h s) → numbered n (held-from b count i at) ≡ numbered n (held-from b count (i + 1) (at + size))
+  pub not-here : (number ≡ n → ⊥) → (size : ℕ) → size ≡ size-of es′ → numbered n (held-from b count i at) ≡ numbered n (held-from b count (i + 1) (at + size))
   not-here ne size e =
-      let z = e ∙ ap size-of (here b count i at h s) in
-      let k = is ∙ ap number-of (here b count i at h s) in
-      ap (numbered n) (held-more b count i at h s) ∙
-      rw (ne-eqb (number-of (es b count i at h s)) n (λ q. ne (k ∙ q))) (ap (λ x. numbered n (held-from b count (i + 1) (at + x))) (sym z))
+      let z = e ∙ ap size-of here in
+      let k = is ∙ ap number-of here in
+      ap (numbered n) (held-more b count i at h s here) ∙
+      rw (ne-eqb (number-of (entries-from b i)) n (λ q. ne (k ∙ q))) (ap (λ x. numbered n (held-from b count (i + 1) (at + x))) (sym z))
 
 -- LISTING
 

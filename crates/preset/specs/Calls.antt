@@ -1,14 +1,18 @@
 -- What the calls answer.
 use mathlib.Core.Path.{_≡_}
+use mathlib.Core.Bool.{true, false}
 use mathlib.Core.List.{List, [], _∷_, _++_, map}
 use Prim.Native.Nat.{ℕ, _≤_}
 use denote.Ref.{RefT, now}
 use lib.Dec.{leb}
 use lib.ListN.{length, take, drop}
+use Rattle.preset.specs.Rule.{row-rule}
+use Rattle.preset.specs.Refusals.{row-refusal}
 use Rattle.preset.specs.Format.{Named, encoded, total}
 use Rattle.preset.specs.Entries.{first-refusal, decoded, held, numbered, unless}
 use Rattle.preset.specs.Valid.{FileOf}
-use Rattle.preset.specs.Presets.{all-named, held-as, part, LiesIn, AllLieIn, write-refusal}
+use Rattle.preset.specs.Presets.{row-numbers, all-named, held-as, part, LiesIn, AllLieIn, write-refusal}
+use Rattle.preset.specs.declared.row.Row.{Row}
 use Rattle.preset.specs.declared.preset.Place.{Place}
 use Rattle.preset.specs.declared.preset.Preset.{Preset}
 use Rattle.preset.specs.declared.file.PresetFile.{PresetFile}
@@ -18,6 +22,13 @@ use Rattle.std.specs.declared.option.Option.{Option}
 use Rattle.std.specs.declared.option.Option.the-variants.{Some, None}
 use Rattle.std.specs.declared.result.Result.{Result}
 use Rattle.std.specs.declared.result.Result.the-variants.{Ok, Err}
+
+-- seven numbers that keep the rule make that row, and others are refused with entry 0
+abbrev pub Makes : (top low fall high5 low5 rhigh rlow : ℕ) → Result Row Refusal → Type 0
+Makes top low fall high5 low5 rhigh rlow (Ok p) =
+    (row-rule top low fall high5 low5 rhigh rlow ≡ true) × (row-numbers p ≡ top ∷ low ∷ fall ∷ high5 ∷ low5 ∷ rhigh ∷ rlow ∷ [])
+Makes top low fall high5 low5 rhigh rlow (Err e) =
+    (row-rule top low fall high5 low5 rhigh rlow ≡ false) × (e ≡ row-refusal 0 (top ∷ low ∷ fall ∷ high5 ∷ low5 ∷ rhigh ∷ rlow ∷ []))
 
 -- a file whose bytes are not refused: `read` makes no other
 abbrev pub Accepted : PresetFile → Type 0

@@ -4,11 +4,12 @@ use mathlib.Core.List.{List, [], _∷_, map}
 use Prim.Native.Nat.{ℕ, zero, suc, _+_}
 use lib.Dec.{leb, ltb, eqb}
 use lib.ListN.{length, getD, take, drop}
-use Rattle.preset.specs.Rule.{ThreeRows, rows-keep}
+use Rattle.preset.specs.Rule.{ThreeRows, row-keeps}
+use Rattle.preset.specs.Refusals.{row-refusal}
 use Rattle.preset.specs.Width.{version, number-of, offset-of, size-of, rows-of, entry-size, two}
 use Rattle.preset.specs.Format.{Named, Held, header-size, base, total, located}
 use Rattle.preset.specs.declared.refusal.Refusal.{Refusal}
-use Rattle.preset.specs.declared.refusal.Refusal.the-variants.{Length, Version, Count, Number, Name, Rows}
+use Rattle.preset.specs.declared.refusal.Refusal.the-variants.{Length, Version, Count, Number, Name}
 use Rattle.std.specs.declared.option.Option.{Option}
 use Rattle.std.specs.declared.option.Option.the-variants.{Some, None}
 
@@ -34,12 +35,19 @@ unless false e o = Some e
 abbrev pub name-fits : Claim → Bool
 name-fits c = (leb 1 (c .size) && leb (c .size) 24) && (c .placed && printable (c .name))
 
+-- a row of the entry k that breaks its rule is refused
+abbrev pub row-fault : ℕ → List ℕ → Option Refusal → Option Refusal
+row-fault k r next = unless (row-keeps r) (row-refusal k r) next
+
+abbrev pub rows-fault : ℕ → ThreeRows → Option Refusal → Option Refusal
+rows-fault k r next = row-fault k (r .o) (row-fault k (r .m) (row-fault k (r .u) next))
+
 -- what is wrong with the entry k, which follows one of the number `last`, and where nothing is, what comes next
 abbrev pub fault : (k last : ℕ) → Claim → Option Refusal → Option Refusal
 fault k last c next =
     unless (ltb last (c .number)) (Number k)
     (unless (name-fits c) (Name k)
-    (unless (rows-keep (c .rows)) (Rows k) next))
+    (rows-fault k (c .rows) next))
 
 -- the same of the entries behind the k-th, one by one
 abbrev pub faults : (k last : ℕ) → List Claim → Option Refusal → Option Refusal

@@ -40,7 +40,7 @@ total ps = base (length ps) + length (names ps)
 
 -- version, count, the entries' offset, the file's length
 abbrev pub header : ℕ → ℕ → List ℕ
-header n long = version ∷ n ∷ (two-bytes header-size ++ two-bytes long)
+header n extent = version ∷ n ∷ (two-bytes header-size ++ two-bytes extent)
 
 abbrev pub encoded : List Named → List ℕ
 encoded ps = header (length ps) (total ps) ++ (entries (base (length ps)) ps ++ names ps)

@@ -11,6 +11,7 @@ use Rattle.preset.specs.declared.row.RowFields.{RowFields}
 use Rattle.preset.specs.declared.preset.Rows.{Rows}
 use Rattle.preset.specs.declared.preset.Place.{Place}
 use Rattle.preset.specs.declared.preset.Preset.{Preset}
+use Rattle.preset.specs.declared.list.PresetList.{PresetList}
 use Rattle.preset.specs.declared.refusal.Refusal.{Refusal}
 use Rattle.preset.specs.declared.refusal.Refusal.the-variants.{Count, Room}
 use Rattle.std.specs.declared.option.Option.{Option}
@@ -75,3 +76,7 @@ write-refusal ps text room =
 abbrev pub AllLieIn : List ℕ → List Preset → Type 0
 AllLieIn text [] = Unit {0}
 AllLieIn text (p ∷ ps) = LiesIn text (p .name) × AllLieIn text ps
+
+-- the presets that a list holds
+abbrev pub listed : PresetList → List Preset
+listed l = take (l .count) (l .slots)

@@ -26,6 +26,9 @@ refusal-entry (Name k) = Some k
 refusal-entry (Rows k) = Some k
 refusal-entry Room = None
 
--- the layer of all of them
-abbrev pub file-layer : List ℕ
-file-layer = codes "file"
+abbrev pub refusal-layer : Refusal → List ℕ
+refusal-layer e = codes "file"
+
+-- what is answered of a row that breaks its rule, in the entry k
+abbrev pub row-refusal : ℕ → List ℕ → Refusal
+row-refusal k r = Rows k

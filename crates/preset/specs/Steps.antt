@@ -4,11 +4,13 @@ use mathlib.Core.Bool.{true, false}
 use mathlib.Core.List.{List, [], _∷_, map}
 use Prim.Native.Nat.{ℕ, _≤_, _<_}
 use lib.ListN.{length}
-use Rattle.preset.specs.Rule.{rows-keep}
+use Rattle.preset.specs.Rule.{row-keeps, rows-keep}
+use Rattle.preset.specs.Refusals.{row-refusal}
 use Rattle.preset.specs.Width.{number-of, size-of, rows-of}
 use Rattle.preset.specs.Format.{total}
-use Rattle.preset.specs.Entries.{Claim, claim, fault, faults}
-use Rattle.preset.specs.Presets.{three-rows, claimed, all-named, LiesIn}
+use Rattle.preset.specs.Entries.{Claim, claim, fault, faults, rows-fault}
+use Rattle.preset.specs.Presets.{row-numbers, three-rows, claimed, all-named, LiesIn}
+use Rattle.preset.specs.declared.row.Row.{Row}
 use Rattle.preset.specs.declared.preset.Preset.{Preset}
 use Rattle.preset.specs.declared.preset.Rows.{Rows as PresetRows}
 use Rattle.preset.specs.declared.refusal.Refusal.{Refusal}
@@ -32,9 +34,15 @@ pub record Says (at : ℕ) (es : List ℕ) (p : Preset) : Type 0 where
   pub size : p .name .length ≡ size-of es
   pub rows : three-rows (p .rows) ≡ rows-of es
 
-abbrev pub ReadsRows : List ℕ → Option PresetRows → Type 0
-ReadsRows es (Some r) = (rows-keep (rows-of es) ≡ true) × (three-rows r ≡ rows-of es)
-ReadsRows es None = rows-keep (rows-of es) ≡ false
+-- the row of some bytes, in the entry k
+abbrev pub ReadsRow : ℕ → List ℕ → Result Row Refusal → Type 0
+ReadsRow k b (Ok p) = (row-keeps b ≡ true) × (row-numbers p ≡ b)
+ReadsRow k b (Err e) = (row-keeps b ≡ false) × (e ≡ row-refusal k b)
+
+-- the rows of the entry k at the front of `es`
+abbrev pub ReadsRows : ℕ → List ℕ → Result PresetRows Refusal → Type 0
+ReadsRows k es (Ok r) = (rows-keep (rows-of es) ≡ true) × (three-rows r ≡ rows-of es)
+ReadsRows k es (Err e) = (rows-keep (rows-of es) ≡ false) × ((o : Option Refusal) → rows-fault k (rows-of es) o ≡ Some e)
 
 -- the entry k at the front of `es`, with its name at the front of `ns`, is refused or its name lies there
 abbrev pub Checks : (k last at : ℕ) → (es ns : List ℕ) → Option Refusal → Type 0

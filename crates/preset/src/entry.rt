@@ -13,6 +13,7 @@ use crate::Refusal;
 use crate::Row;
 use crate::Rows;
 use crate::layout::NUMBER_WIDTH;
+use crate::layout::from_two_bytes;
 
 // The longest name.
 pub(crate) const NAME_MOST: usize = 24;
@@ -29,21 +30,15 @@ pub(crate) fn all_printable(name: &[u8]) -> bool
     true
 }
 
-// The rows of the entry at the front of `es`, where each keeps the rule.
-fn rows(es: &[u8]) -> Option<Rows>
+// The rows of the entry k at the front of `es`, or the refusal of the first that breaks its rule.
+fn rows(es: &[u8], k: u8) -> Result<Rows, Refusal>
     requires { ⌜ entry-size ≤ length (now es) ⌝ }
-    ensures { λ r. ⌜ ReadsRows (now (es .entry)) r ⌝ }
+    ensures { λ r. ⌜ ReadsRows k (now (es .entry)) r ⌝ }
 {
-    let Some(o) = Row::read(&es[NUMBER_WIDTH + 3..NUMBER_WIDTH + 10]) else {
-        return None;
-    };
-    let Some(m) = Row::read(&es[NUMBER_WIDTH + 10..NUMBER_WIDTH + 17]) else {
-        return None;
-    };
-    let Some(u) = Row::read(&es[NUMBER_WIDTH + 17..NUMBER_WIDTH + 24]) else {
-        return None;
-    };
-    Some(Rows { o, m, u })
+    let o = Row::read(&es[NUMBER_WIDTH + 3..NUMBER_WIDTH + 10], k)?;
+    let m = Row::read(&es[NUMBER_WIDTH + 10..NUMBER_WIDTH + 17], k)?;
+    let u = Row::read(&es[NUMBER_WIDTH + 17..NUMBER_WIDTH + 24], k)?;
+    Ok(Rows { o, m, u })
 }
 
 // How long the name of the entry at the front of `es` is.
@@ -54,7 +49,7 @@ pub(crate) fn name_length(es: &[u8]) -> usize
     es[NUMBER_WIDTH + 2] as usize
 }
 
-// What is wrong with the entry k at the front of `es`, whose name has to be at the front of `ns`, which is `at`.
+// What is wrong with the entry k at the front of `es`, whose name has to be at the front of `ns`, which begins at `at`.
 pub(crate) fn entry_fault(
     es: &[u8],
     ns: &[u8],
@@ -68,7 +63,7 @@ pub(crate) fn entry_fault(
     if PresetNumber::read(es).value <= last.value {
         return Some(Refusal::Number(k));
     }
-    let offset = 256 * es[NUMBER_WIDTH] as usize + es[NUMBER_WIDTH + 1] as usize;
+    let offset = from_two_bytes(es[NUMBER_WIDTH], es[NUMBER_WIDTH + 1]);
     let size = name_length(es);
     if size < 1 || size > NAME_MOST || offset != at || size > ns.len() {
         return Some(Refusal::Name(k));
@@ -76,9 +71,9 @@ pub(crate) fn entry_fault(
     if !all_printable(&ns[0..size]) {
         return Some(Refusal::Name(k));
     }
-    match rows(es) {
-        Some(_) => None,
-        None => Some(Refusal::Rows(k)),
+    match rows(es, k) {
+        Ok(_) => None,
+        Err(e) => Some(e),
     }
 }
 
@@ -91,12 +86,12 @@ pub(crate) fn preset_at(es: &[u8], at: usize) -> Preset
         offset: at,
         length: name_length(es),
     };
-    match rows(es) {
-        Some(rows) => Preset {
+    match rows(es, 0) {
+        Ok(rows) => Preset {
             number: PresetNumber::read(es),
             name,
             rows,
         },
-        None => unreachable(),
+        Err(_) => unreachable(),
     }
 }

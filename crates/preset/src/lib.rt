@@ -2,6 +2,7 @@
 mod entry;
 mod file;
 mod layout;
+mod list;
 mod number;
 mod preset;
 mod programme;
@@ -13,6 +14,7 @@ mod writing;
 
 pub use file::PresetFile;
 pub use file::read;
+pub use list::PresetList;
 pub use number::PresetNumber;
 pub use preset::Place;
 pub use preset::Preset;

@@ -1,7 +1,9 @@
+ghost use mathlib.Core.Path.{_≡_};
+ghost use Rattle.preset.specs.Rule.{row-of};
+ghost use Rattle.preset.specs.Presets.{row-numbers, three-rows};
 use crate::PresetNumber;
+use crate::Programme;
 use crate::Row;
-
-mod choose;
 
 // A place in a text: where it begins and how many bytes it has.
 #[derive(Clone, Copy)]
@@ -24,4 +26,17 @@ pub struct Preset {
     pub number: PresetNumber,
     pub name: Place,
     pub rows: Rows,
+}
+
+impl Preset {
+    // The row that the programme chooses.
+    pub fn row(&self, programme: Programme) -> Row
+        ensures { λ r. ⌜ row-numbers r ≡ row-of (three-rows (now (self .entry) .rows)) programme ⌝ }
+    {
+        match programme {
+            Programme::O => self.rows.o,
+            Programme::M => self.rows.m,
+            Programme::U => self.rows.u,
+        }
+    }
 }

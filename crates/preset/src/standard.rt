@@ -27,9 +27,9 @@ fn table_row(programme: Programme) -> Row
         Programme::M => PZB90_ROWS[1],
         Programme::U => PZB90_ROWS[2],
     };
-    match Row::read(&numbers) {
-        Some(row) => row,
-        None => unreachable(),
+    match Row::read(&numbers, 0) {
+        Ok(row) => row,
+        Err(_) => unreachable(),
     }
 }
 

@@ -13,9 +13,9 @@ use crate::Refusal;
 use crate::entry::NAME_MOST;
 use crate::entry::all_printable;
 use crate::file::COUNT_MOST;
-use crate::layout::ENTRY_SIZE;
 use crate::layout::HEADER_SIZE;
 use crate::layout::VERSION;
+use crate::layout::names_start;
 
 // What is wrong with the preset k that is to be written.
 fn preset_fault(preset: &Preset, text: &[u8], k: u8, last: PresetNumber) -> Option<Refusal>
@@ -43,16 +43,16 @@ fn measured(presets: &[Preset], text: &[u8]) -> Result<usize, Refusal>
 {
     let mut k = 0;
     let mut last = PresetNumber::NONE;
-    let mut long = HEADER_SIZE + ENTRY_SIZE * presets.len();
+    let mut extent = names_start(presets.len());
     for p in presets {
         k += 1;
         if let Some(e) = preset_fault(p, text, k, last) {
             return Err(e);
         }
         last = p.number;
-        long += p.name.length;
+        extent += p.name.length;
     }
-    Ok(long)
+    Ok(extent)
 }
 
 // Puts a part into the buffer, and says where it ends.
@@ -87,13 +87,13 @@ fn put_entry(buffer: &mut [u8], pos: usize, preset: &Preset, at: usize) -> usize
 }
 
 // Puts the whole file.
-fn put_all(presets: &[Preset], text: &[u8], long: usize, buffer: &mut [u8])
+fn put_all(presets: &[Preset], text: &[u8], extent: usize, buffer: &mut [u8])
     requires few { ⌜ length (now presets) ≤ 32 ⌝ }
-    requires long { ⌜ long ≡ total (all-named (now text) (now presets)) ⌝ }
-    requires short { ⌜ long < 65536 ⌝ }
+    requires extent { ⌜ extent ≡ total (all-named (now text) (now presets)) ⌝ }
+    requires short { ⌜ extent < 65536 ⌝ }
     requires within { ⌜ inside (now text) (now presets) ⌝ }
-    requires room { ⌜ long ≤ length (now buffer) ⌝ }
-    ensures { λ _. ⌜ now (buffer .exit) ≡ encoded (all-named (now (text .entry)) (now (presets .entry))) ++ drop long (now (buffer .entry)) ⌝ }
+    requires room { ⌜ extent ≤ length (now buffer) ⌝ }
+    ensures { λ _. ⌜ now (buffer .exit) ≡ encoded (all-named (now (text .entry)) (now (presets .entry))) ++ drop extent (now (buffer .entry)) ⌝ }
 {
     let count = presets.len() as u8;
     let mut pos = put(
@@ -104,11 +104,11 @@ fn put_all(presets: &[Preset], text: &[u8], long: usize, buffer: &mut [u8])
             count,
             0,
             HEADER_SIZE as u8,
-            (long / 256) as u8,
-            (long % 256) as u8,
+            (extent / 256) as u8,
+            (extent % 256) as u8,
         ],
     );
-    let mut at = HEADER_SIZE + ENTRY_SIZE * presets.len();
+    let mut at = names_start(presets.len());
     for p in presets {
         pos = put_entry(buffer, pos, p, at);
         at += p.name.length;
@@ -128,14 +128,10 @@ pub fn write(presets: &[Preset], text: &[u8], buffer: &mut [u8]) -> Result<usize
     if presets.len() < 1 || presets.len() > COUNT_MOST as usize {
         return Err(Refusal::Count);
     }
-    match measured(presets, text) {
-        Ok(long) => {
-            if long > buffer.len() {
-                return Err(Refusal::Room);
-            }
-            put_all(presets, text, long, buffer);
-            Ok(long)
-        }
-        Err(e) => Err(e),
+    let extent = measured(presets, text)?;
+    if extent > buffer.len() {
+        return Err(Refusal::Room);
     }
+    put_all(presets, text, extent, buffer);
+    Ok(extent)
 }

@@ -37,6 +37,14 @@ fn a_refused_file_gives_two_lines(rt: LibcRuntime) -> Result<(), Fail> {
 #[test]
 fn a_long_input_is_measured(rt: LibcRuntime) -> Result<(), Fail> {
     let heap = rt.alloc();
-    let input = vec![in heap; 1u8; 65536]?;
-    check(report(heap, input.as_slice())?.as_slice() == b"read 65536 bytes\nno 1 file\n")
+    let longest = vec![in heap; 255u8; 65535]?;
+    check(report(heap, longest.as_slice())?.as_slice() == b"read 65535 bytes\nno 2 file\n").note(
+        "the length that it says",
+    )?;
+    let longer = vec![in heap; 255u8; 65536]?;
+    check(report(heap, longer.as_slice())?.as_slice() == b"read 65536 bytes\nno 1 file\n")?;
+    let turned = vec![in heap; 1u8; 65793]?;
+    check(report(heap, turned.as_slice())?.as_slice() == b"read 65793 bytes\nno 1 file\n").note(
+        "65,536 more than it says",
+    )
 }

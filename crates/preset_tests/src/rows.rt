@@ -9,7 +9,7 @@ type Numbers = [u8; 7];
 // The number of the refusal and its entry, or 0 where the row is made and has those numbers.
 fn made(numbers: Numbers) -> (u8, Option<u8>) {
     let [top, low, fall, high5, low5, rhigh, rlow] = numbers;
-    match Row::new(rlow, rhigh, low5, high5, low, top, fall) {
+    match Row::new(rlow, rhigh, low5, high5, top, low, fall) {
         Ok(row) => (if row.numbers() == numbers { 0 } else { 255 }, None),
         Err(e) => (e.number(), e.entry()),
     }

@@ -109,13 +109,12 @@ pub(crate) const PAIR: [u8; 59] = [
     67, // A, BC
 ];
 
-// A change of some bytes, and what comes of reading them: the number of the refusal, or 0 where they are read, and its entry,
-// or 0 where it names none.
+// Changes of some bytes, each a place and a value, and what comes of reading them: the number of the refusal, or 0 where they
+// are read, and its entry, or 0 where it names none.
 #[derive(Clone, Copy)]
 pub(crate) struct Case {
-    // a place and a value, twice
-    pub edits: [(usize, u8); 2],
-    pub outcome: (u8, u8),
+    pub(crate) edits: &'static [(usize, u8)],
+    pub(crate) outcome: (u8, u8),
 }
 
 pub(crate) fn outcome(bytes: &[u8]) -> (u8, u8) {
@@ -130,13 +129,25 @@ pub(crate) fn check_cases(heap: Global, bytes: &[u8], cases: &[Case]) -> Result<
     for case in cases {
         let mut copy = bytes.to_vec(heap)?;
         for (at, value) in case.edits {
-            if let Some(b) = copy.get_mut(at) {
-                *b = value;
-            }
+            let Some(b) = copy.get_mut(*at) else {
+                return Err(Fail::new("an edit outside the file"));
+            };
+            *b = *value;
         }
         check_eq(outcome(copy.as_slice()), case.outcome)?;
     }
     Ok(())
+}
+
+// The file of one preset with the PZB 90 rows and a name of so many bytes, put together byte by byte.
+pub(crate) fn named(heap: Global, length: u8) -> Result<Vec<u8>, AllocError> {
+    let mut file = Vec::new(heap);
+    file.extend_from_slice(&[1, 1, 0, 6, 0, length.saturating_add(31), 1, 0, 31, length])?;
+    file.extend_from_slice(&STANDARD[10..31])?;
+    for _ in 0..length {
+        file.push(65)?;
+    }
+    Ok(file)
 }
 
 // The file of the presets 1 to `count`, each with the PZB 90 rows and the name `A`, put together byte by byte.

@@ -36,7 +36,7 @@ fn written(heap: Global, presets: &[Preset], text: &[u8], room: usize) -> Result
     }
 }
 
-// The presets 1 to `count`, each named by the whole text.
+// The presets 1 to `count`, each named by the first bytes of the text.
 fn many(heap: Global, count: u8, length: usize) -> Result<Vec<Preset>, AllocError> {
     let mut presets = Vec::new(heap);
     for number in 0..count {
@@ -55,11 +55,11 @@ fn the_pzb90_preset_is_written() -> Result<(), Fail> {
 }
 
 #[test]
-fn what_was_read_is_written_again(rt: LibcRuntime) -> Result<(), Fail> {
+fn what_was_read_is_written_again() -> Result<(), Fail> {
     let Ok(file) = read(&PAIR) else {
         return Err(Fail::new("the file is refused"));
     };
-    let presets = file.presets(rt.alloc())?;
+    let presets = file.presets();
     let mut buffer = [7u8; 59];
     check(write(presets.as_slice(), &PAIR, &mut buffer) == Ok(59))?;
     check(&buffer == &PAIR)
@@ -84,7 +84,7 @@ fn the_largest_file_is_read(rt: LibcRuntime) -> Result<(), Fail> {
     let Ok(file) = read(&buffer) else {
         return Err(Fail::new("the file is refused"));
     };
-    check_eq(file.presets(rt.alloc())?.len(), 32)?;
+    check_eq(file.presets().as_slice().len(), 32)?;
     let Some(last) = file.lookup(PresetNumber { value: 32 }) else {
         return Err(Fail::new("32 is not found"));
     };

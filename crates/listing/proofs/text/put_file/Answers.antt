@@ -16,8 +16,8 @@ returns c =
     let o0 = vec-items (c .args .out .now) in
     let o1 = vec-items (c .put-presets .last .out) in
     let o2 = vec-items (c .put-written .last .out) in
-    let l = c .in-Continue-presets .ensures tt in
+    let l = c .presets-presets .ensures in
     let same : all-named f (c .as-slice .result .now) ≡ decoded b =
-    ap (all-named f) (c .as-slice .ensures .value) ∙ (l .presets ∙ ap decoded (c .pre .1)) in
+    ap (all-named f) (c .as-slice .ensures) ∙ (l .presets ∙ ap decoded (c .pre .1)) in
     let a : o1 ≡ o0 ++ all-lines (decoded b) = c .in-Continue-put-presets .ensures tt ∙ ap (λ t. o0 ++ all-lines t) same in
     then-put o0 o1 o2 (all-lines (decoded b)) (wrote-line (length b) true) a (c .in-Continue-put-written .ensures tt)

@@ -26,18 +26,18 @@ returns-then-not-all-printable c =
     let t : printable (take (size-of es) ns) ≡ false = sym (rw z at (c .if-not-all-printable .ensures tt)) in
     name-fails (c .args .k) (c .args .last .value) C (omega arith) (name-unfit C (λ f. both-ways (printable (take (size-of es) ns)) t (f .text)))
 
-pub returns-in-Some : need.returns-in-Some
-returns-in-Some c =
+pub returns-in-Ok : need.returns-in-Ok
+returns-in-Ok c =
     let es = c .args .es .now in
     let ns = c .args .ns .now in
     let z : c .name-length-size .result - 0 ≡ size-of es = omega arith in
     let t : printable (take (size-of es) ns) ≡ true = sym (rw z at (c .if-not-all-printable .ensures tt)) in
-    (passes (c .args .k) (c .args .last .value) (claim (c .args .at) es ns) (omega arith) (claim-fits (c .args .at) es ns (omega arith) (omega arith) (omega arith) (omega arith) t) (c .in-Some .ensures tt .0), omega arith)
+    (passes (c .args .k) (c .args .last .value) (claim (c .args .at) es ns) (omega arith) (claim-fits (c .args .at) es ns (omega arith) (omega arith) (omega arith) (omega arith) t) (c .in-Ok .ensures tt .0), omega arith)
 
-pub returns-in-None : need.returns-in-None
-returns-in-None c =
+pub returns-in-Err : need.returns-in-Err
+returns-in-Err c =
     let es = c .args .es .now in
     let ns = c .args .ns .now in
     let z : c .name-length-size .result - 0 ≡ size-of es = omega arith in
     let t : printable (take (size-of es) ns) ≡ true = sym (rw z at (c .if-not-all-printable .ensures tt)) in
-    rows-fail (c .args .k) (c .args .last .value) (claim (c .args .at) es ns) (omega arith) (claim-fits (c .args .at) es ns (omega arith) (omega arith) (omega arith) (omega arith) t) (c .in-None .ensures tt)
+    rows-fail (c .args .k) (c .args .last .value) (claim (c .args .at) es ns) (omega arith) (claim-fits (c .args .at) es ns (omega arith) (omega arith) (omega arith) (omega arith) t) (c .in-Err .e) (c .in-Err .ensures tt .1)

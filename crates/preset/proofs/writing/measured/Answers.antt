@@ -12,7 +12,7 @@ use Rattle.preset.proofs.writing.measured.Needs as need
 
 pub loop-p-holds : need.loop-p-holds
 loop-p-holds c =
-    (refl, omega arith, sym (total-named (c .args .text .now) (c .args .presets .now)), (λ f. f), (λ o. refl))
+    (refl, omega arith, omega (arith, total-named (c .args .text .now) (c .args .presets .now)), (λ f. f), (λ o. refl))
 
 pub returns-in-Some : need.returns-in-Some
 returns-in-Some c o =

@@ -12,7 +12,7 @@ use Rattle.preset.proofs.writing.measured.Given as given
 
 abbrev pub Inv-loop-p : given.InvT-loop-p
 Inv-loop-p l =
-    (l .k ≡ l .p-index) × (l .long ≤ base (length (l .presets)) + 24 * l .p-index) ×
-    (l .long + length (names (all-named (l .text) (drop (l .p-index) (l .presets)))) ≡ total (all-named (l .text) (l .presets))) ×
+    (l .k ≡ l .p-index) × (l .extent ≤ base (length (l .presets)) + 24 * l .p-index) ×
+    (l .extent + length (names (all-named (l .text) (drop (l .p-index) (l .presets)))) ≡ total (all-named (l .text) (l .presets))) ×
     (inside (l .text) (drop (l .p-index) (l .presets)) → inside (l .text) (l .presets)) ×
     ((o : Option Refusal) → faults (l .p-index) (l .last .value) (map (claimed (l .text)) (drop (l .p-index) (l .presets))) o ≡ faults 0 0 (map (claimed (l .text)) (l .presets)) o)

@@ -15,8 +15,14 @@ pub loop-p-holds : need.loop-p-holds
 loop-p-holds c =
     let text = c .args .text .now in
     let ps = c .args .presets .now in
-    let E = entries (base (length ps)) (all-named text ps) in
-    (omega (arith, c .put-pos .ensures .end), sym (c .pre .long ∙ total-named text ps), c .pre .within, ap (λ t. t ++ E) (c .put-pos .ensures .front), refl)
+    let N = all-named text ps in
+    let front = take (c .put-pos .result) (c .put-pos .last .buffer) in (
+      omega (arith, c .put-pos .ensures .end),
+      omega (arith, c .pre .extent, total-named text ps),
+      c .pre .within,
+      ap (λ a. front ++ entries a N) (c .names-start-at .ensures) ∙ ap (λ t. t ++ entries (base (length ps)) N) (c .put-pos .ensures .front),
+      refl,
+    )
 
 pub put-entry-pos-requires : need.put-entry-pos-requires
 put-entry-pos-requires c κs =
@@ -26,8 +32,8 @@ put-entry-pos-requires c κs =
     let t = total-named text ps in
     (omega arith, (omega arith, w .0 .0))
 
-pub add-at-in-loop-p : need.add-at-in-loop-p
-add-at-in-loop-p c =
+pub add-at : need.add-at
+add-at c =
     let w = inside-here (c .args .text .now) (c .args .presets .now) (c .loop-p .p-index) (c .p-item .result) (omega arith) (c .p-item .is) (c .loop-p .inv .2) in
     let short = w .0 .0 in
     search needs
@@ -104,13 +110,13 @@ returns c =
     let ep = drop-all (c .loop-p .p-index) ps (omega arith) in
     let eq = drop-all (c .loop-q .q-index) ps (omega arith) in
     let E = entries (base (length ps)) N in
-    let H = header (length ps) (c .args .long) in
+    let H = header (length ps) (c .args .extent) in
     let f1 = subst (λ ys. take (c .loop-q .pos) (c .loop-q .buffer) ++ names (all-named text ys) ≡ take (c .loop-p .pos) (c .loop-p .buffer) ++ names N) eq (c .loop-q .inv .2) in
     let f0 = subst (λ ys. take (c .loop-p .pos) (c .loop-p .buffer) ++ entries (c .loop-p .at) (all-named text ys) ≡ H ++ E) ep (c .loop-p .inv .3) in
     let n = ap (λ ys. length (names (all-named text ys))) eq in
-    let at-end : c .loop-q .pos ≡ c .args .long = omega arith in
+    let at-end : c .loop-q .pos ≡ c .args .extent = omega arith in
     let six = c .put-pos .ensures .end in
     let t = total-named text ps in
     finish (c .loop-q .buffer) (c .loop-p .buffer) (c .put-pos .last .buffer) start H E (names N) (c .loop-q .pos) (c .loop-p .pos) (c .put-pos .result) (omega arith) (omega arith) f1 f0 (c .loop-q .inv .3) (c .loop-p .inv .4) (c .put-pos .ensures .back) ∙
-    (ap (λ t. t ++ drop (c .loop-q .pos) start) (sym (encoded-is text ps (c .args .long) (c .pre .long))) ∙
+    (ap (λ t. t ++ drop (c .loop-q .pos) start) (sym (encoded-is text ps (c .args .extent) (c .pre .extent))) ∙
     ap (λ k. encoded N ++ drop k start) at-end)

@@ -10,15 +10,15 @@ use Rattle.preset.proofs.writing.put_all.Given as given
 abbrev pub Inv-loop-p : given.InvT-loop-p
 Inv-loop-p l =
     (l .pos ≡ base (l .p-index)) ×
-    (l .at + length (names (all-named (l .text) (drop (l .p-index) (l .presets)))) ≡ l .long) ×
+    (l .at + length (names (all-named (l .text) (drop (l .p-index) (l .presets)))) ≡ l .extent) ×
     inside (l .text) (drop (l .p-index) (l .presets)) ×
     (take (l .pos) (l .buffer) ++ entries (l .at) (all-named (l .text) (drop (l .p-index) (l .presets))) ≡
-    header (length (l .presets)) (l .long) ++ entries (base (length (l .presets))) (all-named (l .text) (l .presets))) ×
+    header (length (l .presets)) (l .extent) ++ entries (base (length (l .presets))) (all-named (l .text) (l .presets))) ×
     (drop (l .pos) (l .buffer) ≡ drop (l .pos) (l .entry .buffer))
 
 abbrev pub Inv-loop-q : given.InvT-loop-q
 Inv-loop-q l =
-    (l .pos + length (names (all-named (l .text) (drop (l .q-index) (l .presets)))) ≡ l .long) ×
+    (l .pos + length (names (all-named (l .text) (drop (l .q-index) (l .presets)))) ≡ l .extent) ×
     inside (l .text) (drop (l .q-index) (l .presets)) ×
     (take (l .pos) (l .buffer) ++ names (all-named (l .text) (drop (l .q-index) (l .presets))) ≡
     take (l .entry .pos) (l .entry .buffer) ++ names (all-named (l .text) (l .presets))) ×

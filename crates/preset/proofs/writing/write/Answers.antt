@@ -11,12 +11,12 @@ use Rattle.preset.proofs.Claims.{count-fit}
 use Rattle.preset.proofs.Writes.{read-back}
 use Rattle.preset.proofs.writing.write.Needs as need
 
-pub returns-else-long-buffer : need.returns-else-long-buffer
-returns-else-long-buffer c =
+pub returns : need.returns
+returns c =
     let text = c .args .text .now in
     let ps = c .args .presets .now in
-    let k = c .in-Ok .ensures tt in
-    let n = c .in-Ok .long in
+    let k = c .in-Continue-extent .ensures tt in
+    let n = c .in-Continue-extent .extent in
     let counted : count-fits (length ps) ≡ true = count-fit (length ps) (omega arith) (omega arith) in
     let r = read-back text ps n (c .args .buffer .now) (c .put-all .last .buffer) (omega arith) (omega arith) (k .2) (k .3) (k .0) (c .put-all .ensures) in
     let room = le-leb (total (all-named text ps)) (length (c .args .buffer .now)) (omega (arith, k .0)) in

@@ -1,8 +1,8 @@
 use mathlib.Core.Path.{_≡_}
 use mathlib.Core.List.{_++_, map}
-use Rattle.std.specs.Of.Vec.{vec-items}
+use lib.ListN.{length}
 use Rattle.preset.specs.Entries.{held}
-use Rattle.preset.specs.Presets.{held-as}
+use Rattle.preset.specs.Presets.{held-as, listed}
 use Rattle.preset.specs.Steps.{inside}
 use Rattle.preset.proofs.Trips.{Bytes}
 use Rattle.preset.proofs.Walks.{Stands, held-from}
@@ -11,5 +11,6 @@ use Rattle.preset.proofs.file.PresetFile.presets.Given as given
 abbrev pub Inv-loop-i : given.InvT-loop-i
 Inv-loop-i l =
     Stands (l .bytes) (l .count) (l .i) (l .at) ×
-    (map (held-as (l .bytes)) (vec-items (l .presets)) ++ held-from (l .bytes) (l .count) (l .i) (l .at) ≡ held (l .bytes)) ×
-    inside (l .bytes) (vec-items (l .presets)) × Bytes (l .bytes)
+    (map (held-as (l .bytes)) (listed (l .presets)) ++ held-from (l .bytes) (l .count) (l .i) (l .at) ≡ held (l .bytes)) ×
+    inside (l .bytes) (listed (l .presets)) × Bytes (l .bytes) ×
+    (length (listed (l .presets)) ≡ l .i)

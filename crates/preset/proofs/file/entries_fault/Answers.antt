@@ -1,23 +1,30 @@
-use mathlib.Core.Path.{sym, ap, _∙_}
+use mathlib.Core.Path.{_≡_, sym, ap, subst, _∙_}
 use mathlib.Core.List.{map}
-use Prim.Native.Nat.{_+_}
+use Prim.Native.Nat.{_+_, _≤_}
 use native.Mathlib.Omega.{arith}
 use lib.ListN.{length}
 use Rattle.std.proofs.shelf.Lists.{length-drop}
 use Rattle.std.proofs.shelf.Tests.{eq-eqb, ne-eqb}
 use Rattle.preset.specs.Width.{number-of, size-of}
 use Rattle.preset.specs.Format.{base, names}
-use Rattle.preset.specs.Entries.{plain, faults, unless}
+use Rattle.preset.specs.Entries.{claims-in, decoded, plain, faults, unless}
 use Rattle.preset.specs.declared.refusal.Refusal.the-variants.{Name}
+use Rattle.preset.specs.declared.refusal.Refusal.{Refusal}
+use Rattle.std.specs.declared.option.Option.{Option}
 use Rattle.std.specs.declared.option.Option.the-variants.{Some, None}
-use Rattle.preset.proofs.Steps.{claims-start, entries-end, entries-from, claims-from, checks-here, here, faults-on, faults-stop, names-on}
-use Rattle.preset.proofs.file.reading.entries_fault.Needs as need
+use Rattle.preset.proofs.Steps.{claims-start, entries-end, entries-from, claims-from, checks-here, faults-on, faults-stop, names-on}
+use Rattle.preset.proofs.file.entries_fault.Needs as need
 
 pub loop-i-holds : need.loop-i-holds
 loop-i-holds c =
     let b = c .args .bytes .now in
-    let s = claims-start b (c .args .count) (c .pre .0) in
-    (c .pre .1 .1, ap (λ cs. base (c .args .count) + length (names (map plain cs))) s, (λ o. ap (λ cs. faults 0 0 cs o) s))
+    let n = c .args .count in
+    let s = claims-start b n (c .pre .0) in
+    let e = sym (c .names-start-at .ensures) in (
+      subst (λ a. a ≤ length b) e (c .pre .1 .1),
+      subst (λ a. a + length (names (map plain (claims-from b n 0 a))) ≡ base n + length (names (decoded b))) e (ap (λ cs. base n + length (names (map plain cs))) s),
+      subst (λ a. (o : Option Refusal) → faults 0 0 (claims-from b n 0 a) o ≡ faults 0 0 (claims-in b) o) e (λ o. ap (λ cs. faults 0 0 cs o) s),
+    )
 
 pub loop-i-again : need.loop-i-again
 loop-i-again c =
@@ -25,9 +32,9 @@ loop-i-again c =
     let n = c .args .count in
     let i = c .loop-i .i in
     let at = c .loop-i .at in
-    let k = checks-here b i at (i + 1) (c .loop-i .last .value) None (c .in-rest .ensures tt) in
-    let number-is = c .read-last .ensures ∙ here b i at number-of in
-    let size-is = c .name-length-at .ensures ∙ here b i at size-of in
+    let k = checks-here b i at (c .entry-at-es .ensures .bytes) (i + 1) (c .loop-i .last .value) None (c .in-rest .ensures tt) in
+    let number-is = c .read-last .ensures ∙ ap number-of (c .entry-at-es .ensures .bytes) in
+    let size-is = c .name-length-at .ensures ∙ ap size-of (c .entry-at-es .ensures .bytes) in
     let m = names-on b n i at (omega arith) (k .1) ∙ ap (λ s. s + length (names (map plain (claims-from b n (i + 1) (at + s))))) (sym size-is) in (
       omega (arith, k .1, length-drop at b),
       omega (arith, c .loop-i .inv .1),
@@ -39,7 +46,7 @@ loop-i-again c =
 pub returns-in-Some : need.returns-in-Some
 returns-in-Some c =
     let b = c .args .bytes .now in
-    let k = checks-here b (c .loop-i .i) (c .loop-i .at) (c .loop-i .i + 1) (c .loop-i .last .value) (Some (c .in-Some .e)) (c .in-Some .ensures tt) in
+    let k = checks-here b (c .loop-i .i) (c .loop-i .at) (c .entry-at-es .ensures .bytes) (c .loop-i .i + 1) (c .loop-i .last .value) (Some (c .in-Some .e)) (c .in-Some .ensures tt) in
     sym (faults-stop b (c .args .count) (c .loop-i .i) (c .loop-i .at) (omega arith) (c .loop-i .last .value) (c .in-Some .e) k _) ∙ c .loop-i .inv .2 _
 
 pub returns-then-at-bytes : need.returns-then-at-bytes

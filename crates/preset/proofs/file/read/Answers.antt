@@ -1,6 +1,6 @@
 use mathlib.Core.Path.{refl, sym}
 use Rattle.preset.proofs.Trips.{file-of, only-list, no-list}
-use Rattle.preset.proofs.file.reading.read.Needs as need
+use Rattle.preset.proofs.file.read.Needs as need
 
 pub returns-in-Some : need.returns-in-Some
 returns-in-Some c =

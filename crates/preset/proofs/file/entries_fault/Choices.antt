@@ -7,7 +7,7 @@ use Rattle.preset.specs.Entries.{claims-in, decoded, plain, faults}
 use Rattle.preset.specs.declared.refusal.Refusal.{Refusal}
 use Rattle.std.specs.declared.option.Option.{Option}
 use Rattle.preset.proofs.Steps.{claims-from}
-use Rattle.preset.proofs.file.reading.entries_fault.Given as given
+use Rattle.preset.proofs.file.entries_fault.Given as given
 
 abbrev pub Inv-loop-i : given.InvT-loop-i
 Inv-loop-i l =
