@@ -59,7 +59,7 @@ count-fits n = leb 1 n && leb n 32
 
 -- A FILE THAT IS READ
 
--- the entry at the front of `es`, whose name has to be at the front of `ns`, which is `at`
+-- the entry at the front of `es`, whose name has to be at the front of `ns`, which begins at `at` of the file
 abbrev pub claim : ℕ → List ℕ → List ℕ → Claim
 claim at es ns = record {
   number = number-of es;

@@ -10,20 +10,20 @@ mod make;
 // Seven numbers that keep the row rule: speeds in whole km/h, and `fall` in whole seconds.
 #[derive(Clone, Copy)]
 pub struct Row {
-    // the speed at once, and the lowest that the limit of a 1000 Hz run falls to, in `fall`
+    // the limit where a 1000 Hz run begins, and the one that it falls to within `fall` seconds
     top: u8,
     low: u8,
     fall: u8,
-    // where the limit of a 500 Hz run starts and ends
+    // the limit where a 500 Hz run begins, and the one that it falls to
     high5: u8,
     low5: u8,
-    // the same of a restrictive one
+    // the same of a restrictive run
     rhigh: u8,
     rlow: u8,
     ghost rule: { row-rule top low fall high5 low5 rhigh rlow ≡ true },
 }
 
-// The numbers of a row by their names. Where a `Row` is wanted, only a row will do.
+// The numbers of a row by their names. As plain numbers they need not keep the rule.
 #[derive(Clone, Copy)]
 pub struct RowFields {
     pub top: Kmh,

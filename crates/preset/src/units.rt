@@ -1,4 +1,4 @@
-// The units of a preset row: nothing above a row counts in them.
+// The units of preset rows.
 
 // Whole kilometres an hour.
 #[derive(Clone, Copy)]

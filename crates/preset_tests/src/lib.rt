@@ -1,4 +1,4 @@
-// Worked values of the preset rules, on both sides of every bound.
+// Worked values of the rules of presets, and the edges of their bounds.
 #[cfg(test)]
 mod files;
 #[cfg(test)]
