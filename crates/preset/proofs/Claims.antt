@@ -6,8 +6,8 @@ use mathlib.Core.Logic.{⊎-elim}
 use Prim.Native.Nat.{ℕ, _+_, _<_, _≤_}
 use native.Mathlib.Omega.{arith}
 use lib.Dec.{leb, ltb, eqb}
-use lib.ListN.{length, take}
-use Rattle.std.proofs.shelf.Tests.{and-from, and-parts, lt-ltb, le-leb, leb-true, ltb-true, eq-eqb, eqb-true, cases-bool}
+use lib.ListN.{length}
+use Rattle.std.proofs.shelf.Tests.{and-from, and-parts, lt-ltb, le-leb, leb-true, ltb-true, eqb-true, cases-bool}
 use Rattle.preset.specs.Rule.{ThreeRows, row-keeps, rows-keep}
 use Rattle.preset.specs.Refusals.{row-refusal}
 use Rattle.preset.specs.Width.{offset-of, size-of}
@@ -51,14 +51,11 @@ pub name-unfit : (c : Claim) → (Fit c → ⊥) → name-fits c ≡ false
 name-unfit c never = ⊎-elim (λ t. absurd (never (fit c t))) (λ f. f) (cases-bool (name-fits c))
 
 -- the name of an entry in a file
-pub claim-fits : (at : ℕ) (es ns : List ℕ) → 1 ≤ size-of es → size-of es ≤ 24 → offset-of es ≡ at → size-of es ≤ length ns → printable (take (size-of es) ns) ≡ true → name-fits (claim at es ns) ≡ true
-claim-fits at es ns some few place within text =
-    name-fit (claim at es ns) some few (and-from _ _ (eq-eqb (offset-of es) at place) (le-leb (size-of es) (length ns) within)) text
+pub claim-place : (at : ℕ) (es ns : List ℕ) → claim at es ns .placed ≡ true → offset-of es ≡ at
+claim-place at es ns h = eqb-true (offset-of es) at (and-parts (eqb (offset-of es) at) (leb (size-of es) (length ns)) h .0)
 
-pub claim-fit : (at : ℕ) (es ns : List ℕ) → Fit (claim at es ns) → (offset-of es ≡ at) × (size-of es ≤ length ns)
-claim-fit at es ns f =
-    let p = and-parts (eqb (offset-of es) at) (leb (size-of es) (length ns)) (f .placed) in
-    (eqb-true (offset-of es) at (p .0), leb-true (size-of es) (length ns) (p .1))
+pub claim-within : (at : ℕ) (es ns : List ℕ) → claim at es ns .placed ≡ true → size-of es ≤ length ns
+claim-within at es ns h = leb-true (size-of es) (length ns) (and-parts (eqb (offset-of es) at) (leb (size-of es) (length ns)) h .1)
 
 -- three rows that keep the rule are not refused, and back
 pub rows-clear : (k : ℕ) (r : ThreeRows) → rows-keep r ≡ true → (o : Option Refusal) → rows-fault k r o ≡ o

@@ -17,7 +17,7 @@ use Rattle.preset.specs.declared.refusal.Refusal.{Refusal}
 use Rattle.preset.specs.declared.refusal.Refusal.the-variants.{Length, Version, Count, Name}
 use Rattle.std.specs.declared.option.Option.the-variants.{Some, None}
 use Rattle.preset.proofs.Bytes.{spells}
-use Rattle.preset.proofs.Claims.{clash, passed, meets, claim-fit, faults-next, faults-none, whole, whole-plain, plain-whole, fine-from, valid-from, count-fit, count-parts}
+use Rattle.preset.proofs.Claims.{clash, passed, meets, claim-place, claim-within, faults-next, faults-none, whole, whole-plain, plain-whole, fine-from, valid-from, count-fit, count-parts}
 use Rattle.preset.proofs.EntryBytes.{claim-back, entry-long, entry-parts}
 use Rattle.preset.proofs.Steps.{length-claims}
 
@@ -104,12 +104,13 @@ forth (suc left) k last at n es ns y e h w =
     let c = claim at es ns in
     let rest = claims left (at + s) (drop entry-size es) (drop s ns) in
     let m = meets (k + 1) last c _ w in
-    let f = claim-fit at es ns (m .0 .name) in
+    let place = claim-place at es ns (m .0 .name .placed) in
+    let within = claim-within at es ns (m .0 .name .placed) in
     let more : n ≡ entry-size + (n - entry-size) = omega arith in
     let r = forth left (k + 1) (number-of es) (at + s) (n - entry-size) (drop entry-size es) (drop s ns) (bytes-drop entry-size es y) (omega arith) (omega (arith, length-drop entry-size es)) (m .1) in
-    let hi : at / 256 ≡ getD es 1 0 = omega (arith, f .0, y 2) in
-    let lo : at % 256 ≡ getD es 2 0 = omega (arith, f .0, y 2) in
-    let size-is : length (take s ns) ≡ s = length-take-le s ns (f .1) in
+    let hi : at / 256 ≡ getD es 1 0 = omega (arith, place, y 2) in
+    let lo : at % 256 ≡ getD es 2 0 = omega (arith, place, y 2) in
+    let size-is : length (take s ns) ≡ s = length-take-le s ns within in
     let N = names (map plain rest) in
     let E : ℕ → ℕ → ℕ → List ℕ → List ℕ = λ hi lo z t. (number-of es ∷ hi ∷ lo ∷ z ∷ rows-bytes (rows-of es)) ++ t in
     record {

@@ -18,7 +18,7 @@ use Rattle.preset.specs.Calls.{Lists}
 use Rattle.preset.specs.declared.preset.Preset.{Preset}
 use Rattle.preset.specs.declared.refusal.Refusal.the-variants.{Room}
 use Rattle.std.specs.declared.option.Option.the-variants.{None}
-use Rattle.preset.proofs.Claims.{Meets, meets, claim-fit, faults-clear, whole, whole-plain, count-fit}
+use Rattle.preset.proofs.Claims.{Meets, meets, claim-within, faults-clear, whole, whole-plain, count-fit}
 use Rattle.preset.proofs.Steps.{entries-from, claims-from, claims-more, claims-done, claims-start}
 use Rattle.preset.proofs.Trips.{Bytes, accepted, decoded-fine, decoded-valid, encoded-decoded}
 
@@ -58,7 +58,7 @@ module _ (b : List ℕ) (count i at : ℕ) (h : i < count) (s : Stands b count i
   stands-rows = ap (λ x. rows-keep (rows-of x)) here ∙ step .0 .rows
 
   size-fits : size-of es ≤ length (drop at b)
-  size-fits = claim-fit at es (drop at b) (step .0 .name) .1
+  size-fits = claim-within at es (drop at b) (step .0 .name .placed)
 
   pub stands-inside : (size : ℕ) → size ≡ size-of es′ → at + size ≤ length b
   stands-inside size e =

@@ -1,11 +1,12 @@
-ghost use mathlib.Core.Bool.{true};
+ghost use mathlib.Core.Bool.{_&&_, true};
 ghost use mathlib.Core.Path.{_≡_};
 ghost use Prim.Native.Nat.{_≤_};
+ghost use lib.Dec.{eqb, leb};
 ghost use lib.ListN.{length};
 ghost use Rattle.preset.specs.Entries.{printable};
 ghost use Rattle.preset.specs.Rule.{rows-keep};
 ghost use Rattle.preset.specs.Steps.{Checks, ReadsRows, Says};
-ghost use Rattle.preset.specs.Width.{entry-size, rows-of, size-of};
+ghost use Rattle.preset.specs.Width.{entry-size, offset-of, rows-of, size-of};
 use crate::Place;
 use crate::Preset;
 use crate::PresetNumber;
@@ -18,12 +19,18 @@ use crate::layout::from_two_bytes;
 // The longest name.
 pub(crate) const NAME_MOST: usize = 24;
 
-// Whether each byte is printable, 32 to 126.
+fn is_printable(b: u8) -> bool
+    ensures { λ r. ⌜ r ≡ (leb 32 b && leb b 126) ⌝ }
+{
+    32 <= b && b <= 126
+}
+
+// Whether each byte is printable.
 pub(crate) fn all_printable(name: &[u8]) -> bool
     ensures { λ r. ⌜ r ≡ printable (now (name .entry)) ⌝ }
 {
     for b in name {
-        if *b < 32 || *b > 126 {
+        if !is_printable(*b) {
             return false;
         }
     }
@@ -49,6 +56,14 @@ pub(crate) fn name_length(es: &[u8]) -> usize
     es[NUMBER_WIDTH + 2] as usize
 }
 
+// Whether the entry at the front of `es` has its name at `at`, where `ns` begins.
+fn is_placed(es: &[u8], ns: &[u8], at: usize) -> bool
+    requires { ⌜ entry-size ≤ length (now es) ⌝ }
+    ensures { λ r. ⌜ r ≡ (eqb (offset-of (now (es .entry))) at && leb (size-of (now (es .entry))) (length (now (ns .entry)))) ⌝ }
+{
+    from_two_bytes(es[NUMBER_WIDTH], es[NUMBER_WIDTH + 1]) == at && name_length(es) <= ns.len()
+}
+
 // What is wrong with the entry k at the front of `es`, whose name has to be at the front of `ns`, which begins at `at`.
 pub(crate) fn entry_fault(
     es: &[u8],
@@ -60,12 +75,14 @@ pub(crate) fn entry_fault(
     requires { ⌜ entry-size ≤ length (now es) ⌝ }
     ensures { λ r. ⌜ Checks k (last .value) at (now (es .entry)) (now (ns .entry)) r ⌝ }
 {
-    if PresetNumber::read(es).value <= last.value {
+    if !PresetNumber::read(es).rises_above(last) {
         return Some(Refusal::Number(k));
     }
-    let offset = from_two_bytes(es[NUMBER_WIDTH], es[NUMBER_WIDTH + 1]);
     let size = name_length(es);
-    if size < 1 || size > NAME_MOST || offset != at || size > ns.len() {
+    if size < 1 || size > NAME_MOST {
+        return Some(Refusal::Name(k));
+    }
+    if !is_placed(es, ns, at) {
         return Some(Refusal::Name(k));
     }
     if !all_printable(&ns[0..size]) {

@@ -1,10 +1,12 @@
 ghost use mathlib.Core.Path.{_≡_};
 ghost use Prim.Native.Nat.{_≤_};
+ghost use lib.Dec.{eqb};
 ghost use lib.ListN.{length};
 ghost use Rattle.preset.specs.Calls.{Accepted, Finds, Hands, Lists, OfValidList, Reads};
-ghost use Rattle.preset.specs.Entries.{count-in, entries-refusal, first-refusal};
+ghost use Rattle.preset.specs.Entries.{count-in, entries-refusal, first-refusal, unless};
 ghost use Rattle.preset.specs.Format.{base};
 ghost use Rattle.preset.specs.Presets.{listed};
+ghost use Rattle.preset.specs.declared.refusal.Refusal.the-variants.{Name};
 ghost use Rattle.std.specs.declared.option.Option.the-variants.{None};
 use crate::Preset;
 use crate::PresetList;
@@ -28,6 +30,18 @@ pub struct PresetFile<'a> {
 // The most presets that a file can hold.
 pub(crate) const COUNT_MOST: u8 = 32;
 
+// What is wrong with bytes behind the last name, which ends at `at`: they count as the last entry's.
+fn left_over(at: usize, all: usize, count: u8) -> Option<Refusal>
+    requires { ⌜ at ≤ all ⌝ }
+    ensures { λ r. ⌜ r ≡ unless (eqb at all) (Name count) None ⌝ }
+{
+    if at < all {
+        Some(Refusal::Name(count))
+    } else {
+        None
+    }
+}
+
 // What is wrong with the entries, or with what lies behind the last name.
 fn entries_fault(bytes: &[u8], count: u8) -> Option<Refusal>
     requires { ⌜ count ≡ count-in (now bytes) ⌝ ∗ ⌜ count ≤ 32 ⌝ ∗ ⌜ base count ≤ length (now bytes) ⌝ }
@@ -43,10 +57,7 @@ fn entries_fault(bytes: &[u8], count: u8) -> Option<Refusal>
         last = PresetNumber::read(es);
         at += name_length(es);
     }
-    if at < bytes.len() {
-        return Some(Refusal::Name(count));
-    }
-    None
+    left_over(at, bytes.len(), count)
 }
 
 // What is wrong with the bytes of a file: one pass over its header and its entries.

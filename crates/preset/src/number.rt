@@ -1,5 +1,6 @@
 ghost use mathlib.Core.Path.{_≡_};
 ghost use Prim.Native.Nat.{_≤_};
+ghost use lib.Dec.{ltb};
 ghost use lib.ListN.{length};
 ghost use Rattle.preset.specs.Width.{number-width, number-of, number-bytes};
 use crate::layout::NUMBER_WIDTH;
@@ -20,6 +21,13 @@ impl PresetNumber {
         ensures { λ r. ⌜ r .value ≡ number-of (now (entry .entry)) ⌝ }
     {
         PresetNumber { value: entry[0] }
+    }
+
+    // Whether the number comes behind `last` in a file.
+    pub(crate) fn rises_above(self, last: PresetNumber) -> bool
+        ensures { λ r. ⌜ r ≡ ltb (last .value) (self .value) ⌝ }
+    {
+        last.value < self.value
     }
 
     pub(crate) fn bytes(self) -> [u8; NUMBER_WIDTH]

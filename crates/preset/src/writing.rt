@@ -21,7 +21,7 @@ use crate::layout::names_start;
 fn preset_fault(preset: &Preset, text: &[u8], k: u8, last: PresetNumber) -> Option<Refusal>
     ensures { λ r. ⌜ Admits k (last .value) (now (text .entry)) (now (preset .entry)) r ⌝ }
 {
-    if preset.number.value <= last.value {
+    if !preset.number.rises_above(last) {
         return Some(Refusal::Number(k));
     }
     let offset = preset.name.offset;

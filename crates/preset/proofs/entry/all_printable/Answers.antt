@@ -4,8 +4,8 @@ use Rattle.std.proofs.shelf.Ways.{tells}
 use Rattle.preset.specs.Entries.{printable}
 use Rattle.preset.proofs.entry.all_printable.Needs as need
 
-pub returns-then-b-lt32 : need.returns-then-b-lt32
-returns-then-b-lt32 c =
+pub returns-then-not-is-printable : need.returns-then-not-is-printable
+returns-then-not-is-printable c =
     let e = at-drop-more printable (c .args .name .now) (c .loop-b .b-index) 0 (omega arith) in
     grind (arith, tells)
 

@@ -4,11 +4,9 @@ use Prim.Native.Nat.{_+_, _≤_}
 use native.Mathlib.Omega.{arith}
 use lib.ListN.{length}
 use Rattle.std.proofs.shelf.Lists.{length-drop}
-use Rattle.std.proofs.shelf.Tests.{eq-eqb, ne-eqb}
 use Rattle.preset.specs.Width.{number-of, size-of}
 use Rattle.preset.specs.Format.{base, names}
-use Rattle.preset.specs.Entries.{claims-in, decoded, plain, faults, unless}
-use Rattle.preset.specs.declared.refusal.Refusal.the-variants.{Name}
+use Rattle.preset.specs.Entries.{claims-in, decoded, plain, faults}
 use Rattle.preset.specs.declared.refusal.Refusal.{Refusal}
 use Rattle.std.specs.declared.option.Option.{Option}
 use Rattle.std.specs.declared.option.Option.the-variants.{Some, None}
@@ -49,14 +47,7 @@ returns-in-Some c =
     let k = checks-here b (c .loop-i .i) (c .loop-i .at) (c .entry-at-es .ensures .bytes) (c .loop-i .i + 1) (c .loop-i .last .value) (Some (c .in-Some .e)) (c .in-Some .ensures tt) in
     sym (faults-stop b (c .args .count) (c .loop-i .i) (c .loop-i .at) (omega arith) (c .loop-i .last .value) (c .in-Some .e) k _) ∙ c .loop-i .inv .2 _
 
-pub returns-then-at-bytes : need.returns-then-at-bytes
-returns-then-at-bytes c =
-    let b = c .args .bytes .now in
-    let e = entries-end b (c .args .count) (c .pre .0) (c .loop-i .i) (c .loop-i .last .value) (c .loop-i .at) (omega arith) (c .loop-i .inv .1) (c .loop-i .inv .2) in
-    sym (e ∙ ap (λ t. unless t (Name (c .args .count)) None) (ne-eqb (c .loop-i .at) (length b) (λ q. omega arith)))
-
 pub returns : need.returns
 returns c =
-    let b = c .args .bytes .now in
-    let e = entries-end b (c .args .count) (c .pre .0) (c .loop-i .i) (c .loop-i .last .value) (c .loop-i .at) (omega arith) (c .loop-i .inv .1) (c .loop-i .inv .2) in
-    sym (e ∙ ap (λ t. unless t (Name (c .args .count)) None) (eq-eqb (c .loop-i .at) (length b) (omega (arith, c .loop-i .inv .0))))
+    c .left-over .ensures ∙
+    sym (entries-end (c .args .bytes .now) (c .args .count) (c .pre .0) (c .loop-i .i) (c .loop-i .last .value) (c .loop-i .at) (omega arith) (c .loop-i .inv .1) (c .loop-i .inv .2))

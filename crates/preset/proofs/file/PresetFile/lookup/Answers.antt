@@ -2,6 +2,7 @@ use borrow.Author.Needs.{needs}
 use mathlib.Core.Path.{_≡_, sym, ap, subst, _∙_}
 use native.Mathlib.Omega.{arith}
 use Rattle.preset.specs.Entries.{count-in, held, numbered}
+use Rattle.preset.specs.Steps.{Says}
 use Rattle.preset.proofs.Walks.{Stands, held-from, stands-first, stands-rows, stands-inside, stands-next, held-first, held-done, found, not-here}
 use Rattle.preset.proofs.file.PresetFile.lookup.Needs as need
 
@@ -21,7 +22,8 @@ preset-at-requires c κs =
 pub returns-then-read-number : need.returns-then-read-number
 returns-then-read-number c =
     let b = c .args .self .now .bytes .now in
-    let says = c .preset-at .ensures in
+    let told = c .preset-at .ensures in
+    let says : Says (c .loop-i .at) (c .entry-at-es .result .now) (c .preset-at .result) = record { number = told .number; offset = omega (arith, told .offset); size = told .size; rows = told .rows } in
     let within = stands-inside b _ (c .loop-i .i) (c .loop-i .at) (omega arith) (c .loop-i .inv .0) (c .entry-at-es .ensures .bytes) (c .preset-at .result .name .length) (says .size) in (
       sym (c .loop-i .inv .1) ∙
           found b _ (c .loop-i .i) (c .loop-i .at) (omega arith) (c .loop-i .inv .0) (c .entry-at-es .ensures .bytes) (c .args .number .value) (c .read .result .value) (c .read .ensures) (c .preset-at .result) says (omega arith),

@@ -7,7 +7,7 @@ use lib.ListN.{length}
 use Rattle.std.proofs.shelf.Lists.{append-nil, length-append}
 use Rattle.preset.specs.Entries.{count-in, held}
 use Rattle.preset.specs.Presets.{held-as, listed}
-use Rattle.preset.specs.Steps.{inside}
+use Rattle.preset.specs.Steps.{Says, inside}
 use Rattle.preset.proofs.Trips.{accepted}
 use Rattle.preset.proofs.Walks.{Stands, stands-first, stands-rows, stands-inside, stands-short, stands-next, held-from, held-first, held-done, held-next, listed-more, inside-more, lists}
 use Rattle.preset.proofs.file.PresetFile.presets.Needs as need
@@ -40,7 +40,8 @@ loop-i-again c =
     let i = c .loop-i .i in
     let at = c .loop-i .at in
     let p = c .preset-at .result in
-    let says = c .preset-at .ensures in
+    let told = c .preset-at .ensures in
+    let says : Says (c .loop-i .at) (c .entry-at-es .result .now) (c .preset-at .result) = record { number = told .number; offset = omega (arith, told .offset); size = told .size; rows = told .rows } in
     let more = c .push .ensures in
     let within = stands-inside b _ i at (omega arith) (c .loop-i .inv .0) (c .entry-at-es .ensures .bytes) (p .name .length) (says .size) in
     let short = stands-short b _ i at (omega arith) (c .loop-i .inv .0) (c .entry-at-es .ensures .bytes) in (
