@@ -39,6 +39,7 @@ name-fits c = (leb 1 (c .size) && leb (c .size) 24) && (c .placed && printable (
 abbrev pub row-fault : ℕ → List ℕ → Option Refusal → Option Refusal
 row-fault k r next = unless (row-keeps r) (row-refusal k r) next
 
+-- the rows of the entry k in the order O, M, U: the first that breaks its rule is refused
 abbrev pub rows-fault : ℕ → ThreeRows → Option Refusal → Option Refusal
 rows-fault k r next = row-fault k (r .o) (row-fault k (r .m) (row-fault k (r .u) next))
 
@@ -54,6 +55,7 @@ abbrev pub faults : (k last : ℕ) → List Claim → Option Refusal → Option 
 faults k last [] next = next
 faults k last (c ∷ cs) next = fault (k + 1) last c (faults (k + 1) (c .number) cs next)
 
+-- a file has 1 to 32 presets
 abbrev pub count-fits : ℕ → Bool
 count-fits n = leb 1 n && leb n 32
 
@@ -74,9 +76,11 @@ abbrev pub claims : (left at : ℕ) → (es ns : List ℕ) → List Claim
 claims zero at es ns = []
 claims (suc left) at es ns = claim at es ns ∷ claims left (at + size-of es) (drop entry-size es) (drop (size-of es) ns)
 
+-- the count in the header
 abbrev pub count-in : List ℕ → ℕ
 count-in b = getD b 1 0
 
+-- what all entries of a file claim
 abbrev pub claims-in : List ℕ → List Claim
 claims-in b = claims (count-in b) (base (count-in b)) (drop header-size b) (drop (base (count-in b)) b)
 

@@ -11,6 +11,7 @@ pub record Named : Type 0 where
   pub name : List ℕ
   pub rows : ThreeRows
 
+-- the rows in the order O, M, U
 abbrev pub rows-bytes : ThreeRows → List ℕ
 rows-bytes r = r .o ++ (r .m ++ r .u)
 
@@ -23,10 +24,12 @@ abbrev pub entries : ℕ → List Named → List ℕ
 entries at [] = []
 entries at (p ∷ ps) = entry at p ++ entries (at + length (p .name)) ps
 
+-- the names, back to back
 abbrev pub names : List Named → List ℕ
 names [] = []
 names (p ∷ ps) = p .name ++ names ps
 
+-- the header has six bytes, and the entries begin behind it
 abbrev pub header-size : ℕ
 header-size = 6
 
@@ -42,6 +45,7 @@ total ps = base (length ps) + length (names ps)
 abbrev pub header : ℕ → ℕ → List ℕ
 header n extent = version ∷ n ∷ (two-bytes header-size ++ two-bytes extent)
 
+-- the file: the header, the entries and the names
 abbrev pub encoded : List Named → List ℕ
 encoded ps = header (length ps) (total ps) ++ (entries (base (length ps)) ps ++ names ps)
 

@@ -33,6 +33,7 @@ row-fields r = record {
   rlow = record { value = r .rlow };
 }
 
+-- the rows of a preset
 abbrev pub three-rows : Rows → ThreeRows
 three-rows r = record { o = row-numbers (r .o); m = row-numbers (r .m); u = row-numbers (r .u) }
 
@@ -48,6 +49,7 @@ LiesIn text p = p .offset + p .length ≤ length text
 abbrev pub named : List ℕ → Preset → Named
 named text p = record { number = p .number .value; name = part text (p .name); rows = three-rows (p .rows) }
 
+-- the presets of a list, with their names out of one text
 abbrev pub all-named : List ℕ → List Preset → List Named
 all-named text ps = map (named text) ps
 

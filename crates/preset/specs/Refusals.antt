@@ -7,6 +7,7 @@ use Rattle.preset.specs.declared.refusal.Refusal.the-variants.{Length, Version
 use Rattle.std.specs.declared.option.Option.{Option}
 use Rattle.std.specs.declared.option.Option.the-variants.{Some, None}
 
+-- the number by which each is known
 abbrev pub refusal-number : Refusal → ℕ
 refusal-number Length = 1
 refusal-number Version = 2
@@ -26,6 +27,7 @@ refusal-entry (Name k) = Some k
 refusal-entry (Rows k) = Some k
 refusal-entry Room = None
 
+-- the layer that refuses: all are of the file
 abbrev pub refusal-layer : Refusal → List ℕ
 refusal-layer e = codes "file"
 

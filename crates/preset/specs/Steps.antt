@@ -53,6 +53,7 @@ Checks k last at es ns (Some e) = Fails k last (claim at es ns) e
 abbrev pub Lies : List ℕ → Preset → Type 0
 Lies text p = (p .name .length ≤ 24) × LiesIn text (p .name)
 
+-- the same of each preset of a list
 abbrev pub inside : List ℕ → List Preset → Type 0
 inside text [] = Unit {0}
 inside text (p ∷ ps) = Lies text p × inside text ps

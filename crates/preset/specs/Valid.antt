@@ -15,6 +15,7 @@ pub record Sound (p : Named) : Type 0 where
   pub text : printable (p .name) ≡ true
   pub rows : rows-keep (p .rows) ≡ true
 
+-- each preset of a list is sound
 abbrev pub AllSound : List Named → Type 0
 AllSound [] = Unit {0}
 AllSound (p ∷ ps) = Sound p × AllSound ps

@@ -4,6 +4,7 @@ use Prim.Native.Nat.{ℕ, _+_, _*_, _/_, _%_}
 use lib.ListN.{getD, take, drop}
 use Rattle.preset.specs.Rule.{ThreeRows}
 
+-- the version byte
 abbrev pub version : ℕ
 version = 1
 
@@ -11,6 +12,7 @@ version = 1
 abbrev pub number-width : ℕ
 number-width = 1
 
+-- the bytes of a number in an entry
 abbrev pub number-bytes : ℕ → List ℕ
 number-bytes n = n ∷ []
 
@@ -26,16 +28,19 @@ entry-size = number-width + 24
 abbrev pub two-bytes : ℕ → List ℕ
 two-bytes n = n / 256 ∷ n % 256 ∷ []
 
+-- the number that two bytes hold
 abbrev pub two : ℕ → ℕ → ℕ
 two high low = 256 * high + low
 
--- the parts of the entry that `es` begins with
+-- the parts of the entry that `es` begins with: where its name lies
 abbrev pub offset-of : List ℕ → ℕ
 offset-of es = two (getD es number-width 0) (getD es (number-width + 1) 0)
 
+-- the name's length
 abbrev pub size-of : List ℕ → ℕ
 size-of es = getD es (number-width + 2) 0
 
+-- the three rows, seven bytes each
 abbrev pub rows-of : List ℕ → ThreeRows
 rows-of es = record {
   o = take 7 (drop (number-width + 3) es);
