@@ -1,10 +1,17 @@
--- Lists of a known length, element by element.
+-- Lists of bytes, and lists of a known length, element by element.
 use mathlib.Core.Path.{_≡_, refl, ap, _∙_}
 use mathlib.Core.List.{List, [], _∷_}
-use Prim.Native.Nat.{ℕ, _≤_, _+_, suc, zero}
+use Prim.Native.Nat.{ℕ, zero, suc, _+_, _<_, _≤_}
 use native.Mathlib.Omega.{arith}
 use lib.ListN.{length, getD, drop}
-use Rattle.std.proofs.shelf.Lists.{drop-more, nil-from-length, length-drop}
+use Rattle.std.proofs.shelf.Lists.{drop-more, nil-from-length, length-drop, getD-drop}
+
+-- each is a byte
+abbrev pub Bytes : List ℕ → Type 0
+Bytes b = (i : ℕ) → getD b i 0 < 256
+
+pub bytes-drop : (n : ℕ) (b : List ℕ) → Bytes b → Bytes (drop n b)
+bytes-drop n b y i = rw (getD-drop n b i 0) (y (n + i))
 
 -- the elements of a list from the k-th on, n of them, and what is behind them
 abbrev pub spelled : (n k : ℕ) → List ℕ → List ℕ

@@ -9,10 +9,11 @@ use lib.Dec.{leb, ltb, eqb}
 use lib.ListN.{length}
 use Rattle.std.proofs.shelf.Tests.{and-from, and-parts, lt-ltb, le-leb, leb-true, ltb-true, eqb-true, cases-bool}
 use Rattle.preset.specs.Rule.{ThreeRows, row-keeps, rows-keep}
+use Rattle.preset.specs.Names.{is-name, printable}
 use Rattle.preset.specs.Refusals.{row-refusal}
 use Rattle.preset.specs.Width.{offset-of, size-of}
 use Rattle.preset.specs.Format.{Named}
-use Rattle.preset.specs.Entries.{Claim, unless, fault, faults, row-fault, rows-fault, name-fits, printable, plain, claim, count-fits}
+use Rattle.preset.specs.Entries.{Claim, unless, fault, faults, row-fault, rows-fault, name-fits, plain, claim, count-fits}
 use Rattle.preset.specs.Valid.{Rising, AllSound, Valid}
 use Rattle.preset.specs.Steps.{Passes, Fails}
 use Rattle.preset.specs.declared.refusal.Refusal.{Refusal}
@@ -28,27 +29,22 @@ pub passed : (t : Bool) (e : Refusal) (o : Option Refusal) → unless t e o ≡ 
 passed true e o h = (refl, h)
 passed false e o h = absurd (clash {o = Some e} refl h)
 
--- from the facts that the code finds one by one to the chain
-pub name-fit : (c : Claim) → 1 ≤ c .size → c .size ≤ 24 → c .placed ≡ true → printable (c .name) ≡ true → name-fits c ≡ true
-name-fit c some few placed text =
-    and-from _ _ (and-from _ _ (le-leb 1 (c .size) some) (le-leb (c .size) 24 few)) (and-from _ _ placed text)
-
--- the four facts of a name that fits
+-- the facts of a name that fits
 pub record Fit (c : Claim) : Type 0 where
-  pub some : 1 ≤ c .size
-  pub few : c .size ≤ 24
   pub placed : c .placed ≡ true
-  pub text : printable (c .name) ≡ true
+  pub name : is-name (c .name) ≡ true
+
+pub name-fit : (c : Claim) → Fit c → name-fits c ≡ true
+name-fit c f = and-from (c .placed) (is-name (c .name)) (f .placed) (f .name)
 
 pub fit : (c : Claim) → name-fits c ≡ true → Fit c
-fit c h =
-    let a = and-parts (leb 1 (c .size) && leb (c .size) 24) (c .placed && printable (c .name)) h in
-    let b = and-parts (leb 1 (c .size)) (leb (c .size) 24) (a .0) in
-    let d = and-parts (c .placed) (printable (c .name)) (a .1) in
-    record { some = leb-true 1 (c .size) (b .0); few = leb-true (c .size) 24 (b .1); placed = d .0; text = d .1 }
+fit c h = let a = and-parts (c .placed) (is-name (c .name)) h in record { placed = a .0; name = a .1 }
 
-pub name-unfit : (c : Claim) → (Fit c → ⊥) → name-fits c ≡ false
-name-unfit c never = ⊎-elim (λ t. absurd (never (fit c t))) (λ f. f) (cases-bool (name-fits c))
+-- a name has at most 24 bytes
+pub name-short : (n : List ℕ) → is-name n ≡ true → length n ≤ 24
+name-short n h =
+    let a = and-parts (leb 1 (length n) && leb (length n) 24) (printable n) h in
+    leb-true (length n) 24 (and-parts (leb 1 (length n)) (leb (length n) 24) (a .0) .1)
 
 -- the name of an entry in a file
 pub claim-place : (at : ℕ) (es ns : List ℕ) → claim at es ns .placed ≡ true → offset-of es ≡ at
@@ -71,17 +67,15 @@ rows-kept k r o h =
     let c = passed (row-keeps (r .u)) (row-refusal k (r .u)) o (b .1) in
     (and-from (row-keeps (r .o)) _ (a .0) (and-from (row-keeps (r .m)) (row-keeps (r .u)) (b .0) (c .0)), c .1)
 
-module _ (k last : ℕ) (c : Claim) (rising : last < c .number) where
-  pub name-fails : name-fits c ≡ false → Fails k last c (Name k)
-  name-fails n o = rw (lt-ltb last (c .number) rising, n)
+-- an entry whose number rises and whose name fits: its rows decide
+module _ (k last : ℕ) (c : Claim) (rises : ltb last (c .number) ≡ true) (fits : name-fits c ≡ true) where
+  pub rows-fail : (e : Refusal) → ((o : Option Refusal) → rows-fault k (c .rows) o ≡ Some e) → Fails k last c e
+  rows-fail e f o = rw (rises, fits) (f o)
 
-  pub rows-fail : name-fits c ≡ true → (e : Refusal) → ((o : Option Refusal) → rows-fault k (c .rows) o ≡ Some e) → Fails k last c e
-  rows-fail n e r o = rw (lt-ltb last (c .number) rising, n) (r o)
+  pub passes : rows-keep (c .rows) ≡ true → Passes k last c
+  passes keeps o = rw (rises, fits) (rows-clear k (c .rows) keeps o)
 
-  pub passes : name-fits c ≡ true → rows-keep (c .rows) ≡ true → Passes k last c
-  passes n r o = rw (lt-ltb last (c .number) rising, n) (rows-clear k (c .rows) r o)
-
--- and back
+-- what an entry that is not refused meets
 pub record Meets (last : ℕ) (c : Claim) : Type 0 where
   pub rising : last < c .number
   pub name : Fit c
@@ -95,7 +89,7 @@ meets k last c o h =
     (record { rising = ltb-true last (c .number) (a .0); name = fit c (b .0); rows = d .0 }, d .1)
 
 pub meets-passes : (k last : ℕ) (c : Claim) → Meets last c → Passes k last c
-meets-passes k last c s = passes k last c (s .rising) (name-fit c (s .name .some) (s .name .few) (s .name .placed) (s .name .text)) (s .rows)
+meets-passes k last c s = passes k last c (lt-ltb last (c .number) (s .rising)) (name-fit c (s .name)) (s .rows)
 
 -- where nothing is wrong with a list of claims, what comes next decides
 pub faults-next : (cs : List Claim) (k last : ℕ) (o : Option Refusal) → faults k last cs o ≡ None → o ≡ None
@@ -113,13 +107,11 @@ faults-none cs k last o h = subst (λ x. faults k last cs x ≡ None) (faults-ne
 
 -- the claim of a preset whose name is where it has to be
 abbrev pub whole : Named → Claim
-whole p = record { number = p .number; size = length (p .name); placed = true; name = p .name; rows = p .rows }
+whole p = record { number = p .number; placed = true; name = p .name; rows = p .rows }
 
 -- a preset is what its claim says, and the claim of a preset says that preset
-pub whole-plain : (c : Claim) → c .placed ≡ true → c .size ≡ length (c .name) → whole (plain c) ≡ c
-whole-plain c p s =
-    ap (λ n. record { number = c .number; size = n; placed = true; name = c .name; rows = c .rows }) (sym s) ∙
-    ap (λ t. record { number = c .number; size = c .size; placed = t; name = c .name; rows = c .rows }) (sym p)
+pub whole-plain : (c : Claim) → c .placed ≡ true → whole (plain c) ≡ c
+whole-plain c p = ap (λ t. record { number = c .number; placed = t; name = c .name; rows = c .rows }) (sym p)
 
 pub plain-whole : (ps : List Named) → map plain (map whole ps) ≡ ps
 plain-whole [] = refl
@@ -131,7 +123,7 @@ fine-from [] k last r s = refl
 fine-from (p ∷ ps) k last r s =
     meets-passes (k + 1) last (whole p) (record {
       rising = r .0;
-      name = record { some = s .0 .some; few = s .0 .few; placed = refl; text = s .0 .text };
+      name = record { placed = refl; name = s .0 .name };
       rows = s .0 .rows;
     }) _ ∙
     fine-from ps (k + 1) (p .number) (r .1) (s .1)
@@ -140,9 +132,8 @@ pub fine-to : (ps : List Named) (k last : ℕ) → faults k last (map whole ps) 
 fine-to [] k last h = (tt, tt)
 fine-to (p ∷ ps) k last h =
     let m = meets (k + 1) last (whole p) _ h in
-    let n = m .0 .name in
     let r = fine-to ps (k + 1) (p .number) (m .1) in
-    ((m .0 .rising, r .0), (record { some = n .some; few = n .few; text = n .text; rows = m .0 .rows }, r .1))
+    ((m .0 .rising, r .0), (record { name = m .0 .name .name; rows = m .0 .rows }, r .1))
 
 pub valid-from : (ps : List Named) → 1 ≤ length ps → length ps ≤ 32 → faults 0 0 (map whole ps) None ≡ None → Valid ps
 valid-from ps some few h = let v = fine-to ps 0 0 h in record { some = some; few = few; rising = v .0; sound = v .1 }

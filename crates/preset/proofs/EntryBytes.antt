@@ -7,13 +7,13 @@ use native.Mathlib.Omega.{arith}
 use lib.Dec.{leb, eqb}
 use lib.ListN.{length, getD, take, drop}
 use lib.Seq.{take-add}
-use Rattle.std.proofs.shelf.Lists.{append-assoc, length-append, take-at, drop-at, drop-drop}
+use Rattle.std.proofs.shelf.Lists.{append-assoc, length-append, length-take-le, take-at, drop-at, drop-drop}
 use Rattle.std.proofs.shelf.Tests.{and-from, and-parts, eqb-true, eq-eqb, le-leb}
 use Rattle.preset.specs.Rule.{ThreeRows, row-keeps, rows-keep}
-use Rattle.preset.specs.Width.{rows-of, entry-size, two}
+use Rattle.preset.specs.Width.{number-of, offset-of, size-of, rows-of, entry-size, two}
 use Rattle.preset.specs.Format.{Named, rows-bytes, entry}
-use Rattle.preset.specs.Entries.{claim}
-use Rattle.preset.proofs.Bytes.{spells}
+use Rattle.preset.specs.Entries.{claim, plain}
+use Rattle.preset.proofs.Bytes.{Bytes, spells}
 use Rattle.preset.proofs.Claims.{whole}
 
 row-long : (r : List ℕ) → row-keeps r ≡ true → length r ≡ 7
@@ -67,12 +67,12 @@ claim-back at p more rest keeps =
     let placed : (eqb (two (at / 256) (at % 256)) at && leb n (length (p .name ++ rest))) ≡ true =
     and-from _ _ (eq-eqb (two (at / 256) (at % 256)) at (omega arith)) (le-leb n (length (p .name ++ rest)) (omega (arith, length-append (p .name) rest))) in
     let rows-are = rows-back (p .rows) (sevens (p .rows) keeps) more (p .number) (at / 256) (at % 256) n in
-    ap (λ t. record { number = p .number; size = n; placed = t; name = take n (p .name ++ rest); rows = rows-of (entry at p ++ more) }) placed ∙
-    (ap (λ t. record { number = p .number; size = n; placed = true; name = t; rows = rows-of (entry at p ++ more) }) (take-at (p .name) rest n refl) ∙
-    ap (λ t. record { number = p .number; size = n; placed = true; name = p .name; rows = t }) rows-are)
+    ap (λ t. record { number = p .number; placed = t; name = take n (p .name ++ rest); rows = rows-of (entry at p ++ more) }) placed ∙
+    (ap (λ t. record { number = p .number; placed = true; name = t; rows = rows-of (entry at p ++ more) }) (take-at (p .name) rest n refl) ∙
+    ap (λ t. record { number = p .number; placed = true; name = p .name; rows = t }) rows-are)
 
 -- the bytes of an entry, part by part
-pub entry-parts : (es : List ℕ) → entry-size ≤ length es →
+entry-parts : (es : List ℕ) → entry-size ≤ length es →
     take entry-size es ≡ getD es 0 0 ∷ getD es 1 0 ∷ getD es 2 0 ∷ getD es 3 0 ∷ rows-bytes (rows-of es)
 entry-parts es h =
     let X = drop 4 es in
@@ -81,3 +81,14 @@ entry-parts es h =
     let moved = ap (λ t. take 7 X ++ (take 7 t ++ take 7 (drop 14 X))) (drop-drop 7 4 es) ∙ ap (λ t. take 7 X ++ (take 7 (drop 11 es) ++ take 7 t)) (drop-drop 14 4 es) in
     ap (take entry-size) (spells 4 0 es (omega arith)) ∙
     ap (λ t. getD es 0 0 ∷ getD es 1 0 ∷ getD es 2 0 ∷ getD es 3 0 ∷ t) (three ∙ moved)
+
+-- an entry that was read is the one that is written for the preset that it claims
+pub entry-again : (at : ℕ) (es ns : List ℕ) → Bytes es → entry-size ≤ length es → offset-of es ≡ at → size-of es ≤ length ns →
+    entry at (plain (claim at es ns)) ≡ take entry-size es
+entry-again at es ns y h place within =
+    let hi : at / 256 ≡ getD es 1 0 = omega (arith, place, y 2) in
+    let lo : at % 256 ≡ getD es 2 0 = omega (arith, place, y 2) in
+    let E : (hi lo size : ℕ) → List ℕ = λ hi lo size. number-of es ∷ hi ∷ lo ∷ size ∷ rows-bytes (rows-of es) in
+    ap (E (at / 256) (at % 256)) (length-take-le (size-of es) ns within) ∙
+    (ap (λ t. E t (at % 256) (size-of es)) hi ∙
+    (ap (λ t. E (getD es 1 0) t (size-of es)) lo ∙ sym (entry-parts es h)))

@@ -7,18 +7,18 @@ use native.Mathlib.Omega.{arith}
 use lib.Dec.{leb, eqb}
 use lib.ListN.{length, getD, take, drop}
 use lib.Seq.{take-add}
-use Rattle.std.proofs.shelf.Lists.{drop-drop, append-assoc, append-nil, length-append, drop-at, length-drop, length-take-le, take-append-drop, nil-from-length, getD-drop}
+use Rattle.std.proofs.shelf.Lists.{drop-drop, append-assoc, append-nil, length-append, drop-at, length-drop, length-take-le, take-append-drop, nil-from-length}
 use Rattle.std.proofs.shelf.Tests.{and-parts, and-from, le-leb, eq-eqb, leb-true, eqb-true}
-use Rattle.preset.specs.Width.{number-of, size-of, rows-of, entry-size, two, version}
-use Rattle.preset.specs.Format.{Named, rows-bytes, entry, entries, names, base, total, header, header-size, encoded}
+use Rattle.preset.specs.Width.{number-of, size-of, entry-size, two, version}
+use Rattle.preset.specs.Format.{Named, entry, entries, names, base, total, header, header-size, encoded}
 use Rattle.preset.specs.Entries.{Claim, claim, claims, claims-in, count-in, count-fits, decoded, plain, faults, unless, first-refusal, entries-refusal}
 use Rattle.preset.specs.Valid.{Valid, FileOf}
 use Rattle.preset.specs.declared.refusal.Refusal.{Refusal}
 use Rattle.preset.specs.declared.refusal.Refusal.the-variants.{Length, Version, Count, Name}
 use Rattle.std.specs.declared.option.Option.the-variants.{Some, None}
-use Rattle.preset.proofs.Bytes.{spells}
+use Rattle.preset.proofs.Bytes.{Bytes, bytes-drop, spells}
 use Rattle.preset.proofs.Claims.{clash, passed, meets, claim-place, claim-within, faults-next, faults-none, whole, whole-plain, plain-whole, fine-from, valid-from, count-fit, count-parts}
-use Rattle.preset.proofs.EntryBytes.{claim-back, entry-long, entry-parts}
+use Rattle.preset.proofs.EntryBytes.{claim-back, entry-long, entry-again}
 use Rattle.preset.proofs.Steps.{length-claims}
 
 -- WRITTEN, THEN READ
@@ -82,13 +82,6 @@ file-back b N f = subst (λ x. Back x N) (f .bytes) (encoded-back N (f .valid))
 
 -- READ, THEN WRITTEN
 
--- each is a byte
-abbrev pub Bytes : List ℕ → Type 0
-Bytes b = (i : ℕ) → getD b i 0 < 256
-
-bytes-drop : (n : ℕ) (b : List ℕ) → Bytes b → Bytes (drop n b)
-bytes-drop n b y i = rw (getD-drop n b i 0) (y (n + i))
-
 -- the claims of entries that are not refused: their presets have these entries and names, and claim the same
 pub record Forth (cs : List Claim) (at n : ℕ) (es ns : List ℕ) : Type 0 where
   pub entries-are : entries at (map plain cs) ≡ take n es
@@ -108,26 +101,21 @@ forth (suc left) k last at n es ns y e h w =
     let within = claim-within at es ns (m .0 .name .placed) in
     let more : n ≡ entry-size + (n - entry-size) = omega arith in
     let r = forth left (k + 1) (number-of es) (at + s) (n - entry-size) (drop entry-size es) (drop s ns) (bytes-drop entry-size es y) (omega arith) (omega (arith, length-drop entry-size es)) (m .1) in
-    let hi : at / 256 ≡ getD es 1 0 = omega (arith, place, y 2) in
-    let lo : at % 256 ≡ getD es 2 0 = omega (arith, place, y 2) in
     let size-is : length (take s ns) ≡ s = length-take-le s ns within in
     let N = names (map plain rest) in
-    let E : ℕ → ℕ → ℕ → List ℕ → List ℕ = λ hi lo z t. (number-of es ∷ hi ∷ lo ∷ z ∷ rows-bytes (rows-of es)) ++ t in
     record {
       entries-are =
-          ap (λ z. E (at / 256) (at % 256) z (entries (at + z) (map plain rest))) size-is ∙
-          (ap (λ t. E (at / 256) (at % 256) s t) (r .entries-are) ∙
-          (ap (λ t. E t (at % 256) s (take (n - entry-size) (drop entry-size es))) hi ∙
-          (ap (λ t. E (getD es 1 0) t s (take (n - entry-size) (drop entry-size es))) lo ∙
-          (ap (λ t. t ++ take (n - entry-size) (drop entry-size es)) (sym (entry-parts es (omega arith))) ∙
-          (sym (take-add entry-size (n - entry-size) es) ∙ ap (λ t. take t es) (sym more))))));
+          ap (λ t. t ++ entries (at + length (take s ns)) (map plain rest)) (entry-again at es ns y (omega arith) place within) ∙
+          (ap (λ z. take entry-size es ++ entries (at + z) (map plain rest)) size-is ∙
+          (ap (λ t. take entry-size es ++ t) (r .entries-are) ∙
+          (sym (take-add entry-size (n - entry-size) es) ∙ ap (λ t. take t es) (sym more))));
       names-are =
           append-assoc (take s ns) N (drop (length (take s ns ++ N)) ns) ∙
           (ap (λ l. take s ns ++ (N ++ drop l ns)) (length-append (take s ns) N ∙ ap (λ z. z + length N) size-is) ∙
           (ap (λ t. take s ns ++ (N ++ t)) (sym (drop-drop (length N) s ns)) ∙
           (ap (λ t. take s ns ++ t) (r .names-are) ∙ take-append-drop s ns)));
       claims-are =
-          ap (λ t. t ∷ map whole (map plain rest)) (whole-plain c (m .0 .name .placed) (sym size-is)) ∙ ap (λ t. c ∷ t) (r .claims-are);
+          ap (λ t. t ∷ map whole (map plain rest)) (whole-plain c (m .0 .name .placed)) ∙ ap (λ t. c ∷ t) (r .claims-are);
     }
 
 -- what bytes that are not refused meet

@@ -5,7 +5,7 @@ use mathlib.Core.List.{List, [], _∷_, _++_, map}
 use Prim.Native.Nat.{ℕ, _+_, _-_, _<_, _≤_}
 use native.Mathlib.Omega.{arith}
 use lib.Dec.{leb}
-use lib.ListN.{length, drop}
+use lib.ListN.{length, take, drop}
 use Rattle.std.proofs.shelf.Lists.{length-drop, length-take-le, map-append, append-assoc, length-map}
 use Rattle.std.proofs.shelf.Tests.{eq-eqb, ne-eqb, le-leb}
 use Rattle.preset.specs.Rule.{rows-keep}
@@ -18,9 +18,10 @@ use Rattle.preset.specs.Calls.{Lists}
 use Rattle.preset.specs.declared.preset.Preset.{Preset}
 use Rattle.preset.specs.declared.refusal.Refusal.the-variants.{Room}
 use Rattle.std.specs.declared.option.Option.the-variants.{None}
-use Rattle.preset.proofs.Claims.{Meets, meets, claim-within, faults-clear, whole, whole-plain, count-fit}
+use Rattle.preset.proofs.Claims.{Meets, meets, name-short, claim-within, faults-clear, whole, whole-plain, count-fit}
 use Rattle.preset.proofs.Steps.{entries-from, claims-from, claims-more, claims-done, claims-start}
-use Rattle.preset.proofs.Trips.{Bytes, accepted, decoded-fine, decoded-valid, encoded-decoded}
+use Rattle.preset.proofs.Bytes.{Bytes}
+use Rattle.preset.proofs.Trips.{accepted, decoded-fine, decoded-valid, encoded-decoded}
 
 -- nothing is wrong from the entry i on, whose name lies at `at`
 pub record Stands (b : List ℕ) (count i at : ℕ) : Type 0 where
@@ -67,7 +68,9 @@ module _ (b : List ℕ) (count i at : ℕ) (h : i < count) (s : Stands b count i
       omega (arith, length-drop at b, e ∙ ap size-of here)
 
   pub stands-short : size-of es′ ≤ 24
-  stands-short = let f = step .0 .name .few in omega (arith, ap size-of here)
+  stands-short =
+      let f = name-short (take (size-of es) (drop at b)) (step .0 .name .name) in
+      omega (arith, length-take-le (size-of es) (drop at b) size-fits, ap size-of here)
 
   pub stands-next : (size : ℕ) → size ≡ size-of es′ → Stands b count (i + 1) (at + size)
   stands-next size e =
@@ -153,7 +156,7 @@ name-long text p h = length-take-le (p .name .length) (drop (p .name .offset) te
 pub claimed-whole : (text : List ℕ) (ps : List Preset) → inside text ps → map whole (all-named text ps) ≡ map (claimed text) ps
 claimed-whole text [] i = refl
 claimed-whole text (p ∷ ps) i =
-    ap (λ t. t ∷ map whole (all-named text ps)) (whole-plain (claimed text p) (le-leb (p .name .offset + p .name .length) (length text) (i .0 .1)) (sym (name-long text p (i .0 .1)))) ∙
+    ap (λ t. t ∷ map whole (all-named text ps)) (whole-plain (claimed text p) (le-leb (p .name .offset + p .name .length) (length text) (i .0 .1))) ∙
     ap (λ t. claimed text p ∷ t) (claimed-whole text ps (i .1))
 
 all-in : (text : List ℕ) (ps : List Preset) → inside text ps → AllLieIn text ps

@@ -5,6 +5,7 @@ use Prim.Native.Nat.{ℕ, zero, suc, _+_}
 use lib.Dec.{leb, ltb, eqb}
 use lib.ListN.{length, getD, take, drop}
 use Rattle.preset.specs.Rule.{ThreeRows, row-keeps}
+use Rattle.preset.specs.Names.{is-name}
 use Rattle.preset.specs.Refusals.{row-refusal}
 use Rattle.preset.specs.Width.{version, number-of, offset-of, size-of, rows-of, entry-size, two}
 use Rattle.preset.specs.Format.{Named, Held, header-size, base, total, located}
@@ -13,27 +14,21 @@ use Rattle.preset.specs.declared.refusal.Refusal.the-variants.{Length, Version
 use Rattle.std.specs.declared.option.Option.{Option}
 use Rattle.std.specs.declared.option.Option.the-variants.{Some, None}
 
--- what an entry claims: a number, a name's length, whether the name lies where it has to, the name and the rows
+-- what an entry claims: a number, whether its name lies where it has to, the name and the rows
 pub record Claim : Type 0 where
   pub number : ℕ
-  pub size : ℕ
   pub placed : Bool
   pub name : List ℕ
   pub rows : ThreeRows
-
--- each byte is 32 to 126
-abbrev pub printable : List ℕ → Bool
-printable [] = true
-printable (b ∷ bs) = (leb 32 b && leb b 126) && printable bs
 
 -- the refusal where a test fails, and else what comes after it
 abbrev pub unless : Bool → Refusal → Option Refusal → Option Refusal
 unless true e o = o
 unless false e o = Some e
 
--- a name has 1 to 24 bytes, lies where it has to, and is printable
+-- the name lies where it has to, and can be one
 abbrev pub name-fits : Claim → Bool
-name-fits c = (leb 1 (c .size) && leb (c .size) 24) && (c .placed && printable (c .name))
+name-fits c = c .placed && is-name (c .name)
 
 -- a row of the entry k that breaks its rule is refused
 abbrev pub row-fault : ℕ → List ℕ → Option Refusal → Option Refusal
@@ -65,7 +60,6 @@ count-fits n = leb 1 n && leb n 32
 abbrev pub claim : ℕ → List ℕ → List ℕ → Claim
 claim at es ns = record {
   number = number-of es;
-  size = size-of es;
   placed = eqb (offset-of es) at && leb (size-of es) (length ns);
   name = take (size-of es) ns;
   rows = rows-of es;

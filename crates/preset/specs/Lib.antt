@@ -1,4 +1,5 @@
 pub mod Rule
+pub mod Names
 pub mod Refusals
 pub mod Width
 pub mod Format

@@ -3,7 +3,7 @@ use mathlib.Core.List.{List, [], _∷_, map}
 use Prim.Native.Nat.{ℕ, _+_, _≤_}
 use lib.Dec.{leb}
 use lib.ListN.{length, take, drop}
-use Rattle.preset.specs.Rule.{ThreeRows}
+use Rattle.preset.specs.Rule.{ThreeRows, in-order}
 use Rattle.preset.specs.Format.{Named, Held, total}
 use Rattle.preset.specs.Entries.{Claim, unless, faults, count-fits}
 use Rattle.preset.specs.declared.row.Row.{Row}
@@ -17,21 +17,13 @@ use Rattle.preset.specs.declared.refusal.Refusal.the-variants.{Count, Room}
 use Rattle.std.specs.declared.option.Option.{Option}
 use Rattle.std.specs.declared.option.Option.the-variants.{None}
 
+-- a row's numbers by their names
+abbrev pub row-fields : Row → RowFields
+row-fields r = r .fields
+
 -- a row's numbers in the file's order
 abbrev pub row-numbers : Row → List ℕ
-row-numbers r = r .top ∷ r .low ∷ r .fall ∷ r .high5 ∷ r .low5 ∷ r .rhigh ∷ r .rlow ∷ []
-
--- the same by their names
-abbrev pub row-fields : Row → RowFields
-row-fields r = record {
-  top = record { value = r .top };
-  low = record { value = r .low };
-  fall = record { value = r .fall };
-  high5 = record { value = r .high5 };
-  low5 = record { value = r .low5 };
-  rhigh = record { value = r .rhigh };
-  rlow = record { value = r .rlow };
-}
+row-numbers r = in-order (row-fields r)
 
 -- the rows of a preset
 abbrev pub three-rows : Rows → ThreeRows
@@ -61,7 +53,6 @@ held-as b p = record { at = p .name .offset; preset = named b p }
 abbrev pub claimed : List ℕ → Preset → Claim
 claimed text p = record {
   number = p .number .value;
-  size = p .name .length;
   placed = leb (p .name .offset + p .name .length) (length text);
   name = part text (p .name);
   rows = three-rows (p .rows);

@@ -4,6 +4,7 @@ use mathlib.Core.List.{List, [], _∷_}
 use Prim.Native.Nat.{ℕ}
 use lib.Dec.{leb, eqb}
 use lib.ListN.{length, getD}
+use Rattle.preset.specs.declared.row.RowFields.{RowFields}
 use Rattle.preset.specs.declared.programme.Programme.{Programme}
 use Rattle.preset.specs.declared.programme.Programme.the-variants.{O, M, U}
 
@@ -19,6 +20,10 @@ abbrev pub row-keeps : List ℕ → Bool
 row-keeps r =
     eqb (length r) 7 &&
     row-rule (getD r 0 0) (getD r 1 0) (getD r 2 0) (getD r 3 0) (getD r 4 0) (getD r 5 0) (getD r 6 0)
+
+-- the numbers of a row in that order
+abbrev pub in-order : RowFields → List ℕ
+in-order f = f .top .value ∷ f .low .value ∷ f .fall .value ∷ f .high5 .value ∷ f .low5 .value ∷ f .rhigh .value ∷ f .rlow .value ∷ []
 
 -- a row for each programme
 pub record ThreeRows : Type 0 where

@@ -4,15 +4,13 @@ use mathlib.Core.Bool.{true}
 use mathlib.Core.List.{List, [], _∷_}
 use Prim.Native.Nat.{ℕ, _<_, _≤_}
 use lib.ListN.{length}
+use Rattle.preset.specs.Names.{is-name}
 use Rattle.preset.specs.Rule.{rows-keep}
 use Rattle.preset.specs.Format.{Named, encoded}
-use Rattle.preset.specs.Entries.{printable}
 
 -- a name of 1 to 24 printable bytes, and three rows that keep the rule
 pub record Sound (p : Named) : Type 0 where
-  pub some : 1 ≤ length (p .name)
-  pub few : length (p .name) ≤ 24
-  pub text : printable (p .name) ≡ true
+  pub name : is-name (p .name) ≡ true
   pub rows : rows-keep (p .rows) ≡ true
 
 -- each preset of a list is sound

@@ -1,12 +1,11 @@
-ghost use mathlib.Core.Bool.{_&&_, true};
+ghost use mathlib.Core.Bool.{true};
 ghost use mathlib.Core.Path.{_≡_};
 ghost use Prim.Native.Nat.{_≤_};
-ghost use lib.Dec.{eqb, leb};
 ghost use lib.ListN.{length};
-ghost use Rattle.preset.specs.Entries.{printable};
+ghost use Rattle.preset.specs.Entries.{claim, name-fits};
 ghost use Rattle.preset.specs.Rule.{rows-keep};
 ghost use Rattle.preset.specs.Steps.{Checks, ReadsRows, Says};
-ghost use Rattle.preset.specs.Width.{entry-size, offset-of, rows-of, size-of};
+ghost use Rattle.preset.specs.Width.{entry-size, rows-of, size-of};
 use crate::Place;
 use crate::Preset;
 use crate::PresetNumber;
@@ -15,27 +14,7 @@ use crate::Row;
 use crate::Rows;
 use crate::layout::NUMBER_WIDTH;
 use crate::layout::from_two_bytes;
-
-// The longest name.
-pub(crate) const NAME_MOST: usize = 24;
-
-fn is_printable(b: u8) -> bool
-    ensures { λ r. ⌜ r ≡ (leb 32 b && leb b 126) ⌝ }
-{
-    32 <= b && b <= 126
-}
-
-// Whether each byte is printable.
-pub(crate) fn all_printable(name: &[u8]) -> bool
-    ensures { λ r. ⌜ r ≡ printable (now (name .entry)) ⌝ }
-{
-    for b in name {
-        if !is_printable(*b) {
-            return false;
-        }
-    }
-    true
-}
+use crate::name::is_name;
 
 // The rows of the entry k at the front of `es`, or the refusal of the first that breaks its rule.
 fn rows(es: &[u8], k: u8) -> Result<Rows, Refusal>
@@ -59,9 +38,18 @@ pub(crate) fn name_length(es: &[u8]) -> usize
 // Whether the entry at the front of `es` has its name at `at`, where `ns` begins.
 fn is_placed(es: &[u8], ns: &[u8], at: usize) -> bool
     requires { ⌜ entry-size ≤ length (now es) ⌝ }
-    ensures { λ r. ⌜ r ≡ (eqb (offset-of (now (es .entry))) at && leb (size-of (now (es .entry))) (length (now (ns .entry)))) ⌝ }
+    ensures { λ r. ⌜ r ≡ claim at (now (es .entry)) (now (ns .entry)) .placed ⌝ }
 {
     from_two_bytes(es[NUMBER_WIDTH], es[NUMBER_WIDTH + 1]) == at && name_length(es) <= ns.len()
+}
+
+// Whether the entry has its name there, and it can be a name.
+fn has_name(es: &[u8], ns: &[u8], at: usize) -> bool
+    requires { ⌜ entry-size ≤ length (now es) ⌝ }
+    ensures { λ r. ⌜ r ≡ name-fits (claim at (now (es .entry)) (now (ns .entry))) ⌝ }
+{
+    let size = name_length(es);
+    is_placed(es, ns, at) && is_name(&ns[0..size])
 }
 
 // What is wrong with the entry k at the front of `es`, whose name has to be at the front of `ns`, which begins at `at`.
@@ -78,14 +66,7 @@ pub(crate) fn entry_fault(
     if !PresetNumber::read(es).rises_above(last) {
         return Some(Refusal::Number(k));
     }
-    let size = name_length(es);
-    if size < 1 || size > NAME_MOST {
-        return Some(Refusal::Name(k));
-    }
-    if !is_placed(es, ns, at) {
-        return Some(Refusal::Name(k));
-    }
-    if !all_printable(&ns[0..size]) {
+    if !has_name(es, ns, at) {
         return Some(Refusal::Name(k));
     }
     match rows(es, k) {

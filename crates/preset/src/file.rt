@@ -133,13 +133,6 @@ impl<'a> PresetFile<'a> {
     pub fn name(&self, preset: &Preset) -> Option<&'a [u8]>
         ensures { λ r. ⌜ Hands (now (now (self .entry) .bytes)) (now (preset .entry) .name) r ⌝ }
     {
-        let bytes = self.bytes;
-        let offset = preset.name.offset;
-        let length = preset.name.length;
-        if offset > bytes.len() || length > bytes.len() - offset {
-            return None;
-        }
-        let end = offset + length;
-        Some(&bytes[offset..end])
+        preset.name.part_of(self.bytes)
     }
 }

@@ -3,6 +3,7 @@ mod entry;
 mod file;
 mod layout;
 mod list;
+mod name;
 mod number;
 mod preset;
 mod programme;

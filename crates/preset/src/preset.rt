@@ -1,4 +1,5 @@
 ghost use mathlib.Core.Path.{_≡_};
+ghost use Rattle.preset.specs.Calls.{Hands};
 ghost use Rattle.preset.specs.Rule.{row-of};
 ghost use Rattle.preset.specs.Presets.{row-numbers, three-rows};
 use crate::PresetNumber;
@@ -10,6 +11,20 @@ use crate::Row;
 pub struct Place {
     pub offset: usize,
     pub length: usize,
+}
+
+impl Place {
+    // The part of the text that lies there, or nothing where the place is not in it.
+    pub(crate) fn part_of(self, text: &[u8]) -> Option<&[u8]>
+        ensures { λ r. ⌜ Hands (now (text .entry)) self r ⌝ }
+    {
+        if self.offset > text.len() || self.length > text.len() - self.offset {
+            return None;
+        }
+        let offset = self.offset;
+        let end = offset + self.length;
+        Some(&text[offset..end])
+    }
 }
 
 // A row for each programme.

@@ -10,12 +10,11 @@ ghost use Rattle.preset.specs.Width.{entry-size, number-bytes, two-bytes};
 use crate::Preset;
 use crate::PresetNumber;
 use crate::Refusal;
-use crate::entry::NAME_MOST;
-use crate::entry::all_printable;
 use crate::file::COUNT_MOST;
 use crate::layout::HEADER_SIZE;
 use crate::layout::VERSION;
 use crate::layout::names_start;
+use crate::name::is_name;
 
 // What is wrong with the preset k that is to be written.
 fn preset_fault(preset: &Preset, text: &[u8], k: u8, last: PresetNumber) -> Option<Refusal>
@@ -24,13 +23,10 @@ fn preset_fault(preset: &Preset, text: &[u8], k: u8, last: PresetNumber) -> Opti
     if !preset.number.rises_above(last) {
         return Some(Refusal::Number(k));
     }
-    let offset = preset.name.offset;
-    let length = preset.name.length;
-    if length < 1 || length > NAME_MOST || offset > text.len() || length > text.len() - offset {
+    let Some(name) = preset.name.part_of(text) else {
         return Some(Refusal::Name(k));
-    }
-    let end = offset + length;
-    if !all_printable(&text[offset..end]) {
+    };
+    if !is_name(name) {
         return Some(Refusal::Name(k));
     }
     None

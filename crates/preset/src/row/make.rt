@@ -3,7 +3,10 @@ ghost use lib.ListN.{length};
 ghost use Rattle.preset.specs.Calls.{Makes};
 ghost use Rattle.preset.specs.Steps.{ReadsRow};
 use super::Row;
+use super::RowFields;
+use crate::Kmh;
 use crate::Refusal;
+use crate::Seconds;
 
 impl Row {
     // The row of seven numbers, or a refusal where they break the row rule. They come in the order in which the rule first names them.
@@ -31,15 +34,16 @@ impl Row {
             && 1 <= fall
             && fall <= 60
         {
-            Ok(Row {
-                top,
-                low,
-                fall,
-                high5,
-                low5,
-                rhigh,
-                rlow,
-            })
+            let fields = RowFields {
+                top: Kmh { value: top },
+                low: Kmh { value: low },
+                fall: Seconds { value: fall },
+                high5: Kmh { value: high5 },
+                low5: Kmh { value: low5 },
+                rhigh: Kmh { value: rhigh },
+                rlow: Kmh { value: rlow },
+            };
+            Ok(Row { fields })
         } else {
             Err(Refusal::Rows(0))
         }

@@ -4,7 +4,7 @@ use lib.ListN.{length}
 use Rattle.preset.specs.Entries.{held}
 use Rattle.preset.specs.Presets.{held-as, listed}
 use Rattle.preset.specs.Steps.{inside}
-use Rattle.preset.proofs.Trips.{Bytes}
+use Rattle.preset.proofs.Bytes.{Bytes}
 use Rattle.preset.proofs.Walks.{Stands, held-from}
 use Rattle.preset.proofs.file.PresetFile.presets.Given as given
 

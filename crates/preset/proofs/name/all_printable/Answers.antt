@@ -1,8 +1,8 @@
 use native.Mathlib.Omega.{arith}
 use Rattle.std.proofs.shelf.Lists.{at-drop-more, at-drop-all}
 use Rattle.std.proofs.shelf.Ways.{tells}
-use Rattle.preset.specs.Entries.{printable}
-use Rattle.preset.proofs.entry.all_printable.Needs as need
+use Rattle.preset.specs.Names.{printable}
+use Rattle.preset.proofs.name.all_printable.Needs as need
 
 pub returns-then-not-is-printable : need.returns-then-not-is-printable
 returns-then-not-is-printable c =
