@@ -9,177 +9,59 @@ use preset::Place;
 use preset::Preset;
 use preset::PresetNumber;
 use preset::read;
+use std::alloc::AllocError;
+use std::alloc::Global;
 use std::test::*;
 
 // Of the file of one preset.
 const HEADER: [Case; 14] = [
-    Case {
-        edits: &[(5, 39)],
-        outcome: (0, 0),
-    }, // as it was
-    Case {
-        edits: &[(5, 38)],
-        outcome: (1, 0),
-    }, // a length that is one less
-    Case {
-        edits: &[(5, 40)],
-        outcome: (1, 0),
-    }, // one more
-    Case {
-        edits: &[(4, 1)],
-        outcome: (1, 0),
-    }, // 256 more
-    Case {
-        edits: &[(0, 2), (5, 40)],
-        outcome: (1, 0),
-    }, // the length before the version
-    Case {
-        edits: &[(0, 0)],
-        outcome: (2, 0),
-    }, // version 0
-    Case {
-        edits: &[(0, 2)],
-        outcome: (2, 0),
-    }, // version 2
-    Case {
-        edits: &[(0, 2), (1, 0)],
-        outcome: (2, 0),
-    }, // the version before the count
-    Case {
-        edits: &[(1, 0)],
-        outcome: (3, 0),
-    }, // no presets
-    Case {
-        edits: &[(1, 2)],
-        outcome: (3, 0),
-    }, // entries past the end
-    Case {
-        edits: &[(3, 5)],
-        outcome: (3, 0),
-    }, // entries at 5
-    Case {
-        edits: &[(3, 7)],
-        outcome: (3, 0),
-    }, // entries at 7
-    Case {
-        edits: &[(2, 1)],
-        outcome: (3, 0),
-    }, // entries at 262
-    Case {
-        edits: &[(3, 7), (6, 0)],
-        outcome: (3, 0),
-    }, // the offset before the number
+    (&[(5, 39)], (0, 0), "as it was"),
+    (&[(5, 38)], (1, 0), "a length that is one less"),
+    (&[(5, 40)], (1, 0), "one more"),
+    (&[(4, 1)], (1, 0), "256 more"),
+    (&[(0, 2), (5, 40)], (1, 0), "the length before the version"),
+    (&[(0, 0)], (2, 0), "version 0"),
+    (&[(0, 2)], (2, 0), "version 2"),
+    (&[(0, 2), (1, 0)], (2, 0), "the version before the count"),
+    (&[(1, 0)], (3, 0), "no presets"),
+    (&[(1, 2)], (3, 0), "entries past the end"),
+    (&[(3, 5)], (3, 0), "entries at 5"),
+    (&[(3, 7)], (3, 0), "entries at 7"),
+    (&[(2, 1)], (3, 0), "entries at 262"),
+    (&[(3, 7), (6, 0)], (3, 0), "the offset before the number"),
 ];
 
 const ENTRY: [Case; 18] = [
-    Case {
-        edits: &[(6, 0)],
-        outcome: (4, 1),
-    }, // number 0
-    Case {
-        edits: &[(6, 255)],
-        outcome: (0, 0),
-    }, // number 255
-    Case {
-        edits: &[(6, 0), (9, 0)],
-        outcome: (4, 1),
-    }, // the number before the name
-    Case {
-        edits: &[(9, 0)],
-        outcome: (5, 1),
-    }, // no name
-    Case {
-        edits: &[(9, 9)],
-        outcome: (5, 1),
-    }, // a name past the end
-    Case {
-        edits: &[(9, 7)],
-        outcome: (5, 1),
-    }, // a byte left over
-    Case {
-        edits: &[(8, 30)],
-        outcome: (5, 1),
-    }, // a name too early
-    Case {
-        edits: &[(8, 32)],
-        outcome: (5, 1),
-    }, // a name too late
-    Case {
-        edits: &[(7, 1)],
-        outcome: (5, 1),
-    }, // a name 256 too late
-    Case {
-        edits: &[(31, 32)],
-        outcome: (0, 0),
-    }, // a name that begins with byte 32
-    Case {
-        edits: &[(31, 31)],
-        outcome: (5, 1),
-    }, // with byte 31
-    Case {
-        edits: &[(38, 126)],
-        outcome: (0, 0),
-    }, // a name that ends with byte 126
-    Case {
-        edits: &[(38, 127)],
-        outcome: (5, 1),
-    }, // with byte 127
-    Case {
-        edits: &[(31, 127), (10, 251)],
-        outcome: (5, 1),
-    }, // the name before the rows
-    Case {
-        edits: &[(10, 250)],
-        outcome: (0, 0),
-    }, // top 250 in O
-    Case {
-        edits: &[(10, 251)],
-        outcome: (6, 1),
-    }, // top 251 in O
-    Case {
-        edits: &[(19, 61)],
-        outcome: (6, 1),
-    }, // fall 61 in M
-    Case {
-        edits: &[(30, 0)],
-        outcome: (6, 1),
-    }, // rlow 0 in U
+    (&[(6, 0)], (4, 1), "number 0"),
+    (&[(6, 255)], (0, 0), "number 255"),
+    (&[(6, 0), (9, 0)], (4, 1), "the number before the name"),
+    (&[(9, 0)], (5, 1), "no name"),
+    (&[(9, 9)], (5, 1), "a name past the end"),
+    (&[(9, 7)], (5, 1), "a byte left over"),
+    (&[(8, 30)], (5, 1), "a name too early"),
+    (&[(8, 32)], (5, 1), "a name too late"),
+    (&[(7, 1)], (5, 1), "a name 256 too late"),
+    (&[(31, 32)], (0, 0), "a name that begins with byte 32"),
+    (&[(31, 31)], (5, 1), "with byte 31"),
+    (&[(38, 126)], (0, 0), "a name that ends with byte 126"),
+    (&[(38, 127)], (5, 1), "with byte 127"),
+    (&[(31, 127), (10, 251)], (5, 1), "the name before the rows"),
+    (&[(10, 250)], (0, 0), "top 250 in O"),
+    (&[(10, 251)], (6, 1), "top 251 in O"),
+    (&[(19, 61)], (6, 1), "fall 61 in M"),
+    (&[(30, 0)], (6, 1), "rlow 0 in U"),
 ];
 
 // Of the file of two presets.
 const ENTRIES: [Case; 8] = [
-    Case {
-        edits: &[(31, 4)],
-        outcome: (0, 0),
-    }, // number 4 after 3
-    Case {
-        edits: &[(31, 3)],
-        outcome: (4, 2),
-    }, // 3 after 3
-    Case {
-        edits: &[(31, 2)],
-        outcome: (4, 2),
-    }, // 2 after 3
-    Case {
-        edits: &[(33, 56)],
-        outcome: (5, 2),
-    }, // names that overlap
-    Case {
-        edits: &[(34, 1)],
-        outcome: (5, 2),
-    }, // a byte left over
-    Case {
-        edits: &[(35, 251)],
-        outcome: (6, 2),
-    }, // top 251 in the second O
-    Case {
-        edits: &[(10, 251), (31, 0)],
-        outcome: (6, 1),
-    }, // the first entry before the second
-    Case {
-        edits: &[(55, 0), (34, 1)],
-        outcome: (6, 2),
-    }, // the rows before what is left over
+    (&[(31, 4)], (0, 0), "number 4 after 3"),
+    (&[(31, 3)], (4, 2), "3 after 3"),
+    (&[(31, 2)], (4, 2), "2 after 3"),
+    (&[(33, 56)], (5, 2), "names that overlap"),
+    (&[(34, 1)], (5, 2), "a byte left over"),
+    (&[(35, 251)], (6, 2), "top 251 in the second O"),
+    (&[(10, 251), (31, 0)], (6, 1), "entry 1 before entry 2"),
+    (&[(55, 0), (34, 1)], (6, 2), "rows before left-over bytes"),
 ];
 
 #[test]
@@ -190,86 +72,28 @@ fn each_refusal_in_its_order(rt: LibcRuntime) -> Result<(), Fail> {
     check_cases(heap, &PAIR, &ENTRIES)
 }
 
+// The first bytes of the file of one preset, with their number as its length.
+fn cut(heap: Global, length: u8) -> Result<(u8, u8), AllocError> {
+    let mut file = Vec::new(heap);
+    for b in STANDARD.iter().take(length as usize) {
+        file.push(*b)?;
+    }
+    if let Some(b) = file.get_mut(5) {
+        *b = length;
+    }
+    Ok(outcome(file.as_slice()))
+}
+
 #[test]
-fn short_inputs() -> Result<(), Fail> {
+fn short_inputs(rt: LibcRuntime) -> Result<(), Fail> {
+    let heap = rt.alloc();
     check_eq(outcome(&[]), (1, 0))?;
-    check_eq(outcome(&[1, 1, 0, 6, 0]), (1, 0)).note("five bytes")?;
-    check_eq(outcome(&[1, 1, 0, 6, 0, 6]), (3, 0)).note("a header with no entries")?;
-    check_eq(
-        outcome(
-            &[
-                1,
-                1,
-                0,
-                6,
-                0,
-                30,
-                1,
-                0,
-                31,
-                1,
-                9,
-                9,
-                9,
-                9,
-                9,
-                9,
-                9,
-                9,
-                9,
-                9,
-                9,
-                9,
-                9,
-                9,
-                9,
-                9,
-                9,
-                9,
-                9,
-                9,
-            ],
-        ),
-        (3, 0),
-    ).note("an entry that lacks a byte")?;
-    check_eq(
-        outcome(
-            &[
-                1,
-                1,
-                0,
-                6,
-                0,
-                31,
-                1,
-                0,
-                31,
-                1,
-                9,
-                9,
-                9,
-                9,
-                9,
-                9,
-                9,
-                9,
-                9,
-                9,
-                9,
-                9,
-                9,
-                9,
-                9,
-                9,
-                9,
-                9,
-                9,
-                9,
-                9,
-            ],
-        ),
-        (5, 1),
-    ).note("a whole entry with no name behind it")
+    check_eq(cut(heap, 5)?, (1, 0))?;
+    check_eq(cut(heap, 6)?, (3, 0)).note("a header with no entry")?;
+    check_eq(cut(heap, 30)?, (3, 0)).note("an entry that lacks a byte")?;
+    check_eq(cut(heap, 31)?, (5, 1)).note("an entry with no name behind it")?;
+    check_eq(cut(heap, 38)?, (5, 1)).note("a name that lacks a byte")?;
+    check_eq(cut(heap, 39)?, (0, 0))
 }
 
 #[test]

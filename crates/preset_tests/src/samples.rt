@@ -3,120 +3,32 @@ use std::alloc::AllocError;
 use std::alloc::Global;
 use std::test::*;
 
-// The file of the PZB 90 preset, number 1, `Standard`.
-pub(crate) const STANDARD: [u8; 39] = [
-    1,
-    1,
-    0,
-    6,
-    0,
-    39, // version, count, offset, length
-    1,
-    0,
-    31,
-    8, // number, the name's offset and length
-    165,
-    85,
-    23,
-    65,
-    45,
-    45,
-    25, // O
-    125,
-    70,
-    29,
-    50,
-    35,
-    25,
-    25, // M
-    105,
-    55,
-    38,
-    40,
-    25,
-    25,
-    25, // U
-    83,
-    116,
-    97,
-    110,
-    100,
-    97,
-    114,
-    100, // Standard
-];
+// The file of the PZB 90 preset, number 1, `Standard`: its header, its entry up to the rows O, M and U, and the name.
+pub(crate) const STANDARD: [u8; 39] = *b"\
+    \x01\x01\x00\x06\x00\x27\
+    \x01\x00\x1f\x08\
+    \xa5\x55\x17\x41\x2d\x2d\x19\
+    \x7d\x46\x1d\x32\x23\x19\x19\
+    \x69\x37\x26\x28\x19\x19\x19\
+    Standard";
 
 // Two presets, 3 `A` and 200 `BC`.
-pub(crate) const PAIR: [u8; 59] = [
-    1,
-    2,
-    0,
-    6,
-    0,
-    59, // version, count, offset, length
-    3,
-    0,
-    56,
-    1, // number, the name's offset and length
-    100,
-    70,
-    26,
-    50,
-    35,
-    35,
-    25, // O
-    90,
-    65,
-    30,
-    45,
-    30,
-    25,
-    25, // M
-    80,
-    50,
-    38,
-    40,
-    25,
-    25,
-    25, // U
-    200,
-    0,
-    57,
-    2, // number, the name's offset and length
-    250,
-    250,
-    60,
-    250,
-    250,
-    45,
-    45, // O
-    250,
-    45,
-    1,
-    45,
-    45,
-    45,
-    1, // M
-    45,
-    45,
-    1,
-    45,
-    1,
-    1,
-    1, // U
-    65,
-    66,
-    67, // A, BC
-];
+pub(crate) const PAIR: [u8; 59] = *b"\
+    \x01\x02\x00\x06\x00\x3b\
+    \x03\x00\x38\x01\
+    \x64\x46\x1a\x32\x23\x23\x19\
+    \x5a\x41\x1e\x2d\x1e\x19\x19\
+    \x50\x32\x26\x28\x19\x19\x19\
+    \xc8\x00\x39\x02\
+    \xfa\xfa\x3c\xfa\xfa\x2d\x2d\
+    \xfa\x2d\x01\x2d\x2d\x2d\x01\
+    \x2d\x2d\x01\x2d\x01\x01\x01\
+    ABC";
 
-// Changes of some bytes, each a place and a value, and what comes of reading them: the number of the refusal, or 0 where they
-// are read, and its entry, or 0 where it names none.
-#[derive(Clone, Copy)]
-pub(crate) struct Case {
-    pub(crate) edits: &'static [(usize, u8)],
-    pub(crate) outcome: (u8, u8),
-}
+// Changes of some bytes, each a place and a value; what comes of reading them, as `outcome` says it; and what they are.
+pub(crate) type Case = (&'static [(usize, u8)], (u8, u8), &'static str);
 
+// The number of the refusal, or 0 where the bytes are read, and its entry, or 0 where it names none.
 pub(crate) fn outcome(bytes: &[u8]) -> (u8, u8) {
     match read(bytes) {
         Ok(_) => (0, 0),
@@ -126,15 +38,15 @@ pub(crate) fn outcome(bytes: &[u8]) -> (u8, u8) {
 
 // Changes the bytes by each case in turn, and compares.
 pub(crate) fn check_cases(heap: Global, bytes: &[u8], cases: &[Case]) -> Result<(), Fail> {
-    for case in cases {
+    for (edits, expected, what) in cases {
         let mut copy = bytes.to_vec(heap)?;
-        for (at, value) in case.edits {
+        for (at, value) in *edits {
             let Some(b) = copy.get_mut(*at) else {
                 return Err(Fail::new("an edit outside the file"));
             };
             *b = *value;
         }
-        check_eq(outcome(copy.as_slice()), case.outcome)?;
+        check_eq(outcome(copy.as_slice()), *expected).note(*what)?;
     }
     Ok(())
 }
