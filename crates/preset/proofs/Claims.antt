@@ -1,6 +1,6 @@
 -- What is wrong with a claim, test by test.
 use Rattle.std.proofs.Common.{◌≡◌, ℕ, ◌+◌, ◌<◌, ◌≤◌, Bool, true, false, ◌&&◌, eqb, ltb, leb, List, [], ◌∷◌, map, length, Some, None, Option, sym, refl, ap, ◌∙◌, subst, ⊎_elim, arith}
-use Rattle.std.proofs.lemmas.Bool.{and_from, and_parts, lt-ltb, le-leb, leb_true, ltb-true, eqb-true, cases_Bool}
+use Rattle.std.proofs.lemmas.Bool.{and_from, and_parts, lt-ltb, le-leb, leb-true, ltb-true, eqb-true, cases_Bool}
 use Rattle.preset.specs.Rule.{ThreeRows, row_keeps, rows_keep}
 use Rattle.preset.specs.Names.{is_name, printable}
 use Rattle.preset.specs.Refusals.{row_refusal}
@@ -35,14 +35,14 @@ fit c h = let a = and_parts c.placed (is_name c.name) h in record { placed = a.0
 pub name_short : (n : List ℕ) → is_name n ≡ true → length n ≤ 24
 name_short n h =
     let a = and_parts (leb 1 (length n) && leb (length n) 24) (printable n) h in
-    leb_true (length n) 24 (and_parts (leb 1 (length n)) (leb (length n) 24) a.0).1
+    leb-true (length n) 24 (and_parts (leb 1 (length n)) (leb (length n) 24) a.0).1
 
 -- the name of an entry in a file
 pub claim_place : (at : ℕ) (es ns : List ℕ) → (claim at es ns).placed ≡ true → offset_of es ≡ at
 claim_place at es ns h = eqb-true (offset_of es) at (and_parts (eqb (offset_of es) at) (leb (size_of es) (length ns)) h).0
 
 pub claim_within : (at : ℕ) (es ns : List ℕ) → (claim at es ns).placed ≡ true → size_of es ≤ length ns
-claim_within at es ns h = leb_true (size_of es) (length ns) (and_parts (eqb (offset_of es) at) (leb (size_of es) (length ns)) h).1
+claim_within at es ns h = leb-true (size_of es) (length ns) (and_parts (eqb (offset_of es) at) (leb (size_of es) (length ns)) h).1
 
 -- three rows that keep the rule are not refused, and back
 pub rows_clear : (k : ℕ) (r : ThreeRows) → rows_keep r ≡ true → (o : Option Refusal) → rows_fault k r o ≡ o
@@ -134,4 +134,4 @@ pub count_fit : (n : ℕ) → 1 ≤ n → n ≤ 32 → count_fits n ≡ true
 count_fit n some few = and_from _ _ (le-leb 1 n some) (le-leb n 32 few)
 
 pub count_parts : (n : ℕ) → count_fits n ≡ true → (1 ≤ n) × (n ≤ 32)
-count_parts n h = let p = and_parts (leb 1 n) (leb n 32) h in (leb_true 1 n p.0, leb_true n 32 p.1)
+count_parts n h = let p = and_parts (leb 1 n) (leb n 32) h in (leb-true 1 n p.0, leb-true n 32 p.1)

@@ -1,7 +1,7 @@
 -- Both round trips, over lists.
 use Rattle.std.proofs.Common.{◌≡◌, ℕ, zero, suc, ◌+◌, ◌-◌, ◌*◌, ◌/◌, ◌%◌, ◌<◌, ◌≤◌, true, eqb, leb, List, [], ◌∷◌, ◌++◌, map, length, get_or, take, drop, Some, None, sym, refl, ap, ◌∙◌, subst, arith, take-add}
 use Rattle.std.proofs.lemmas.List.{drop-drop, append_assoc, append-nil, length-append, drop_at, length-drop, length-take-le, take-append-drop, nil_from_length}
-use Rattle.std.proofs.lemmas.Bool.{and_parts, and_from, le-leb, eq-eqb, leb_true, eqb-true}
+use Rattle.std.proofs.lemmas.Bool.{and_parts, and_from, le-leb, eq-eqb, leb-true, eqb-true}
 use Rattle.preset.specs.Width.{number_of, size_of, entry_size, two, version}
 use Rattle.preset.specs.Format.{Named, entry, entries, names, base, total, header, header_size, encoded}
 use Rattle.preset.specs.Entries.{Claim, claim, claims, claims_in, count_in, count_fits, decoded, plain, faults, unless, first_refusal, entries_refusal}
@@ -134,13 +134,13 @@ accepted b h =
     let over = unless (eqb (total (decoded b)) (length b)) (Name (count_in b)) None in
     let t = passed (eqb (total (decoded b)) (length b)) (Name (count_in b)) None (faults_next (claims_in b) 0 0 over r.1) in
     record {
-      long = leb_true header_size (length b) p1.0;
+      long = leb-true header_size (length b) p1.0;
       length_is = eqb-true (two (get_or b 4 0) (get_or b 5 0)) (length b) p1.1;
       version_is = eqb-true (get_or b 0 0) version q.0;
       counted = r1.0;
-      few = leb_true (count_in b) 32 r2.1;
+      few = leb-true (count_in b) 32 r2.1;
       offset_is = eqb-true (two (get_or b 2 0) (get_or b 3 0)) header_size r3.0;
-      room = leb_true (base (count_in b)) (length b) r3.1;
+      room = leb-true (base (count_in b)) (length b) r3.1;
       fine = faults_none (claims_in b) 0 0 over r.1;
       total_is = eqb-true (total (decoded b)) (length b) t.0;
     }

@@ -1,4 +1,6 @@
 // Preset rows, presets and preset files: read, looked up and written.
+#![tactic(auto)]
+
 mod entry;
 mod file;
 mod layout;

@@ -34,7 +34,7 @@ impl Preset {
     // The PZB 90 preset: number 1, `Standard`, and the rows of the table.
     pub fn pzb90() -> Preset
         ensures preset { (named (codes "Standard") result ≡ standard) × (LiesIn (codes "Standard") result.name) }
-        ensures* name_text { do ⌜ (← (⟦Preset::PZB90_NAME⟧).entry) ≡ codes "Standard" ⌝ }
+        ensures name_text { Preset.PZB90_NAME ≡ codes "Standard" }
         ensures table_keeps_the_rule { rows_keep pzb90 ≡ true }
     {
         let rows = Rows {

@@ -4,8 +4,8 @@ use Rattle.std.proofs.lemmas.Bool.Decides.{nat_tests}
 use Rattle.preset.specs.Names.{printable}
 use Rattle.preset.proofs.name.all_printable.Goals as goal
 
-pub returns-then-not-is-printable : goal.returns-then-not-is-printable
-returns-then-not-is-printable c =
+pub returns-then-not-is_printable : goal.returns-then-not-is_printable
+returns-then-not-is_printable c =
     let e = at_drop_more printable c.args.name.now c.loop-b.b-index 0 (omega arith) in
     grind (arith, nat_tests)
 

@@ -21,7 +21,7 @@ loop-p-preserved c =
     let ps = c.args.presets.now in
     let i = c.loop-p.p-index in
     let x = c.p-item.result in
-    let r = c.in-default.ensures in
+    let r = c.in_default.ensures in
     let n = names_more text ps i x (omega arith) c.p-item.is r.1 in (
       omega arith,
       omega (arith, r.1.0),

@@ -12,9 +12,9 @@ returns c =
     let text = c.args.text.now in
     let p = c.args.preset.now in
     let handed = c.in-Some.ensures in
-    let name : is_name (part text p.name) ≡ true = sym (c.if-not-is-name.ensures ∙ ap is_name handed.1) in
+    let name : is_name (part text p.name) ≡ true = sym (c.if-not-is_name.ensures ∙ ap is_name handed.1) in
     let placed = le-leb (p.name.offset + p.name.length) (length text) handed.0 in
     let keeps : rows_keep (three_rows p.rows) ≡ true = and_from _ _ p.rows.o.rule (and_from _ _ p.rows.m.rule p.rows.u.rule) in (
-      passes c.args.k c.args.last.value (claimed text p) (sym c.if-not-rises-above.ensures) (name_fit (claimed text p) (record { placed = placed; name = name })) keeps,
+      passes c.args.k c.args.last.value (claimed text p) (sym c.if-not-rises_above.ensures) (name_fit (claimed text p) (record { placed = placed; name = name })) keeps,
       (omega (arith, name_short (part text p.name) name, name_long text p handed.0), handed.0),
     )

@@ -15,20 +15,20 @@ loop-p-init c =
       omega (arith, c.put-pos.ensures.end),
       omega (arith, c.requires.extent, total_named text ps),
       c.requires.within,
-      ap (λ a. front ++ entries a N) c.names-start-at.ensures ∙ ap (λ t. t ++ entries (base (length ps)) N) c.put-pos.ensures.front,
+      ap (λ a. front ++ entries a N) c.names_start-at.ensures ∙ ap (λ t. t ++ entries (base (length ps)) N) c.put-pos.ensures.front,
       refl,
     )
 
-pub put-entry-pos-requires : goal.put-entry-pos-requires
-put-entry-pos-requires c =
+pub put_entry-pos-requires : goal.put_entry-pos-requires
+put_entry-pos-requires c =
     let text = c.args.text.now in
     let ps = c.args.presets.now in
     let w = inside_here text ps c.loop-p.p-index c.p-item.result (omega arith) c.p-item.is c.loop-p.invariant.2 in
     let t = total_named text ps in
     (omega arith, (omega arith, w.0.0))
 
-pub overflow-add-at : goal.overflow-add-at
-overflow-add-at c =
+pub overflow_add-at : goal.overflow_add-at
+overflow_add-at c =
     let w = inside_here c.args.text.now c.args.presets.now c.loop-p.p-index c.p-item.result (omega arith) c.p-item.is c.loop-p.invariant.2 in
     let short = w.0.0 in
     search rules
@@ -42,11 +42,11 @@ loop-p-preserved c =
     let w = inside_here text ps i x (omega arith) c.p-item.is c.loop-p.invariant.2 in
     let n = names_more text ps i x (omega arith) c.p-item.is w.0 in
     let at = c.loop-p.at in (
-      omega (arith, c.put-entry-pos.ensures.end),
+      omega (arith, c.put_entry-pos.ensures.end),
       omega arith,
       w.1,
-      step _ _ _ _ _ c.put-entry-pos.ensures.front (entries_more text ps i x (omega arith) c.p-item.is at w.0) ∙ c.loop-p.invariant.3,
-      c.put-entry-pos.ensures.back ∙ drop_further c.loop-p.pos c.put-entry-pos.result c.loop-p.buffer c.put-pos.new.buffer (omega (arith, c.put-entry-pos.ensures.end)) c.loop-p.invariant.4,
+      step _ _ _ _ _ c.put_entry-pos.ensures.front (entries_more text ps i x (omega arith) c.p-item.is at w.0) ∙ c.loop-p.invariant.3,
+      c.put_entry-pos.ensures.back ∙ drop_further c.loop-p.pos c.put_entry-pos.result c.loop-p.buffer c.put-pos.new.buffer (omega (arith, c.put_entry-pos.ensures.end)) c.loop-p.invariant.4,
     )
 
 pub loop-q-init : goal.loop-q-init
@@ -56,14 +56,14 @@ loop-q-init c =
     let t = total_named text ps in
     (omega arith, c.requires.within, refl, refl)
 
-pub overflow-add-end : goal.overflow-add-end
-overflow-add-end c =
+pub overflow_add-end : goal.overflow_add-end
+overflow_add-end c =
     let w = inside_here c.args.text.now c.args.presets.now c.loop-q.q-index c.q-item.result (omega arith) c.q-item.is c.loop-q.invariant.1 in
     let within = w.0.1 in
     search rules
 
-pub slice-bounds-put-end-in-loop-q : goal.slice-bounds-put-end-in-loop-q
-slice-bounds-put-end-in-loop-q c =
+pub slice_bounds-put-end-in-loop-q : goal.slice_bounds-put-end-in-loop-q
+slice_bounds-put-end-in-loop-q c =
     let w = inside_here c.args.text.now c.args.presets.now c.loop-q.q-index c.q-item.result (omega arith) c.q-item.is c.loop-q.invariant.1 in
     let within = w.0.1 in
     search rules

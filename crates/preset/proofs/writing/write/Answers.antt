@@ -11,12 +11,12 @@ pub returns : goal.returns
 returns c =
     let text = c.args.text.now in
     let ps = c.args.presets.now in
-    let k = c.in-ok-extent.ensures in
-    let n = c.in-ok-extent.extent in
+    let k = c.in_ok-extent.ensures in
+    let n = c.in_ok-extent.extent in
     let counted : count_fits (length ps) ≡ true = count_fit (length ps) (omega arith) (omega arith) in
-    let r = read_back text ps n c.args.buffer.now c.put-all.new.buffer (omega arith) (omega arith) k.2 k.3 k.0 c.put-all.ensures in
+    let r = read_back text ps n c.args.buffer.now c.put_all.new.buffer (omega arith) (omega arith) k.2 k.3 k.0 c.put_all.ensures in
     let room = le-leb (total (all_named text ps)) (length c.args.buffer.now) (omega (arith, k.0)) in
     record {
-      answer = (rw (counted, room) (k.3 None), k.0, omega arith, c.put-all.ensures);
+      answer = (rw (counted, room) (k.3 None), k.0, omega arith, c.put_all.ensures);
       read_back = (r.accepted, r.holds);
     }
