@@ -1,4 +1,4 @@
-ghost use Rattle.std.specs.Prelude.{◌≡◌};
+ghost use Rattle.std.specs.Prelude.{◌≡◌, Bool};
 ghost use Rattle.brake.specs.Applying.{Applies};
 ghost use Rattle.brake.specs.LettingOff.{LetsOff, Tells};
 ghost use Rattle.brake.specs.Meaning.{BrakeMeaning};
@@ -12,7 +12,9 @@ pub trait Brake {
     // Whether a brake of this kind is settled as soon as it is applied.
     const SETTLES_AT_ONCE: bool;
 
-    // Answers the constant. No clause of a trait can name the constant, so this ties it to what the brake means.
+    ghost SETTLES_AT_ONCE: { Bool };
+
+    // Answers the constant, which this ties to what the brake means.
     fn settled_when_applied() -> bool
         ensures { result ≡ meaning.at_once };
 

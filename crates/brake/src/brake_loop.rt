@@ -1,4 +1,4 @@
-ghost use Rattle.std.specs.Prelude.{◌≡◌};
+ghost use Rattle.std.specs.Prelude.{◌≡◌, true};
 ghost use Rattle.brake.specs.Applying.{Applies};
 ghost use Rattle.brake.specs.Meaning.{Off};
 ghost use Rattle.brake.specs.Shipped.{loop_meaning};
@@ -26,16 +26,18 @@ impl Brake for BrakeLoop {
 
     const SETTLES_AT_ONCE: bool = true;
 
+    ghost SETTLES_AT_ONCE = { true };
+
     fn settled_when_applied() -> bool
         ensures kind { result ≡ loop_meaning.at_once }
-        ensures* is_the_constant { do ⌜ result ≡ (← (⟦BrakeLoop::SETTLES_AT_ONCE⟧).entry) ⌝ }
+        ensures is_the_constant { result ≡ ⟦<BrakeLoop as Brake>⟧.SETTLES_AT_ONCE }
     {
         Self::SETTLES_AT_ONCE
     }
 
     fn apply(&mut self)
         ensures facts { Applies loop_meaning self.new }
-        ensures* settled_as_the_constant_says { do ⌜ loop_meaning.facts.settled self.new ≡ (← (⟦BrakeLoop::SETTLES_AT_ONCE⟧).entry) ⌝ }
+        ensures settled_as_the_constant_says { loop_meaning.facts.settled self.new ≡ ⟦<BrakeLoop as Brake>⟧.SETTLES_AT_ONCE }
     {
         self.state.apply(Self::SETTLES_AT_ONCE);
     }

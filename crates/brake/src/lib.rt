@@ -1,4 +1,6 @@
 // Brakes: applied, settled and let off, by a meaning that a set can be proved over.
+#![tactic(auto)]
+
 mod brake;
 mod brake_loop;
 mod pressure;

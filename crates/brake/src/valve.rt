@@ -1,4 +1,4 @@
-ghost use Rattle.std.specs.Prelude.{◌≡◌};
+ghost use Rattle.std.specs.Prelude.{◌≡◌, false};
 ghost use Rattle.brake.specs.Applying.{Applies};
 ghost use Rattle.brake.specs.Meaning.{Off};
 ghost use Rattle.brake.specs.Shipped.{valve_meaning};
@@ -26,16 +26,18 @@ impl Brake for Valve {
 
     const SETTLES_AT_ONCE: bool = false;
 
+    ghost SETTLES_AT_ONCE = { false };
+
     fn settled_when_applied() -> bool
         ensures kind { result ≡ valve_meaning.at_once }
-        ensures* is_the_constant { do ⌜ result ≡ (← (⟦Valve::SETTLES_AT_ONCE⟧).entry) ⌝ }
+        ensures is_the_constant { result ≡ ⟦<Valve as Brake>⟧.SETTLES_AT_ONCE }
     {
         Self::SETTLES_AT_ONCE
     }
 
     fn apply(&mut self)
         ensures facts { Applies valve_meaning self.new }
-        ensures* settled_as_the_constant_says { do ⌜ valve_meaning.facts.settled self.new ≡ (← (⟦Valve::SETTLES_AT_ONCE⟧).entry) ⌝ }
+        ensures settled_as_the_constant_says { valve_meaning.facts.settled self.new ≡ ⟦<Valve as Brake>⟧.SETTLES_AT_ONCE }
     {
         self.state.apply(Self::SETTLES_AT_ONCE);
     }

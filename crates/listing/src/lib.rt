@@ -1,4 +1,6 @@
 // The report that the program `presets` prints.
+#![tactic(auto)]
+
 mod lines;
 mod text;
 

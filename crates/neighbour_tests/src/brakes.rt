@@ -1,5 +1,4 @@
 use brake::{Brake, BrakeLoop, Pressure, Valve, rehearse};
-use std::process::Abort;
 use std::test::Fail;
 
 #[derive(Clone, Copy)]
@@ -26,21 +25,22 @@ fn make<B: Brake>(brake: &mut B, step: Step) -> u8 {
 }
 
 // A new brake has neither fact; then each step in turn.
-fn check_steps<B: Brake>(rt: &impl Abort, brake: &mut B, cases: &[Case]) {
-    assert_eq!(rt; (brake.is_applied(), brake.is_settled()), (false, false));
-    for (step, number, applied, settled) in cases {
-        assert_eq!(rt; make(brake, *step), *number);
-        assert_eq!(rt;
-            (brake.is_applied(), brake.is_settled()),
-            (*applied, *settled)
-        );
+fn check_steps<B: Brake>(brake: &mut B, cases: &[Case]) -> Result<(), Fail> {
+    if (brake.is_applied(), brake.is_settled()) != (false, false) {
+        return Err(Fail::new("a new brake has one of the facts"));
     }
+    for (at, (step, number, applied, settled)) in cases.iter().enumerate() {
+        let refusal = make(brake, *step);
+        if (refusal, brake.is_applied(), brake.is_settled()) != (*number, *applied, *settled) {
+            return Err(Fail::new(at));
+        }
+    }
+    Ok(())
 }
 
 #[test]
-fn a_valve_settles_when_the_pressure_has_fallen(rt: HostRuntime) {
+fn a_valve_settles_when_the_pressure_has_fallen() -> Result<(), Fail> {
     check_steps(
-        &rt,
         &mut Valve::new(),
         &[
             (Step::LetOff, 24, false, false),
@@ -57,13 +57,12 @@ fn a_valve_settles_when_the_pressure_has_fallen(rt: HostRuntime) {
             (Step::LetOff, 24, false, false),
             (Step::Tell(349), 0, false, false),
         ],
-    );
+    )
 }
 
 #[test]
-fn a_loop_settles_at_once(rt: HostRuntime) {
+fn a_loop_settles_at_once() -> Result<(), Fail> {
     check_steps(
-        &rt,
         &mut BrakeLoop::new(),
         &[
             (Step::LetOff, 24, false, false),
@@ -75,7 +74,7 @@ fn a_loop_settles_at_once(rt: HostRuntime) {
             (Step::LetOff, 0, false, false),
             (Step::LetOff, 24, false, false),
         ],
-    );
+    )
 }
 
 // What the kind of a brake says, by its constant and by its method.

@@ -1,4 +1,6 @@
 // Worked values of odometers and brakes, the edges of their bounds, and a buyer's own of each.
+#![tactic(auto)]
+
 #[cfg(test)]
 mod brakes;
 #[cfg(test)]

@@ -52,6 +52,8 @@ impl Brake for Counting {
 
     const SETTLES_AT_ONCE: bool = true;
 
+    ghost SETTLES_AT_ONCE = { true };
+
     fn settled_when_applied() -> bool {
         Self::SETTLES_AT_ONCE
     }

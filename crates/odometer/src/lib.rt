@@ -1,4 +1,6 @@
 // Odometers: how far the train has come, by a meaning that a set can be proved over.
+#![tactic(auto)]
+
 mod fault;
 mod odometer;
 mod refusal;

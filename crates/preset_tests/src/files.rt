@@ -57,9 +57,9 @@ const ENTRIES: [Case; 8] = [
 #[test]
 fn each_refusal_in_its_order(rt: HostRuntime) -> Result<(), Fail> {
     let heap = rt.alloc();
-    check_cases(&rt, heap, &STANDARD, &HEADER)?;
-    check_cases(&rt, heap, &STANDARD, &ENTRY)?;
-    check_cases(&rt, heap, &PAIR, &ENTRIES)
+    check_cases(heap, &STANDARD, &HEADER)?;
+    check_cases(heap, &STANDARD, &ENTRY)?;
+    check_cases(heap, &PAIR, &ENTRIES)
 }
 
 // The first bytes of the file of one preset, with their number as its length.

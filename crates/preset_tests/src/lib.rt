@@ -1,4 +1,6 @@
 // Worked values of the rules of presets, and the edges of their bounds.
+#![tactic(auto)]
+
 #[cfg(test)]
 mod files;
 #[cfg(test)]

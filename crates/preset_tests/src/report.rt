@@ -21,18 +21,22 @@ fn presets_come_in_order(rt: HostRuntime) -> Result<(), Fail> {
 #[test]
 fn a_refused_file_gives_two_lines(rt: HostRuntime) -> Result<(), Fail> {
     let heap = rt.alloc();
-    assert!(rt; report(heap, b"")?.as_slice() == b"read 0 bytes\nno 1 file\n");
-    assert!(rt; report(heap, &[2, 1, 0, 6, 0, 6])?.as_slice() == b"read 6 bytes\nno 2 file\n");
-    assert!(rt; report(heap, &[1, 1, 0, 6, 0, 6])?.as_slice() == b"read 6 bytes\nno 3 file\n");
+    assert!(rt; report(heap, b"")?.as_slice() == b"read 0 bytes\nno 1 file\n".as_slice());
+    assert!(rt;
+        report(heap, &[2, 1, 0, 6, 0, 6])?.as_slice() == b"read 6 bytes\nno 2 file\n".as_slice()
+    );
+    assert!(rt;
+        report(heap, &[1, 1, 0, 6, 0, 6])?.as_slice() == b"read 6 bytes\nno 3 file\n".as_slice()
+    );
     let mut doubled = PAIR;
     doubled[31] = 3;
-    assert!(rt; report(heap, &doubled)?.as_slice() == b"read 59 bytes\nno 4 file 2\n");
+    assert!(rt; report(heap, &doubled)?.as_slice() == b"read 59 bytes\nno 4 file 2\n".as_slice());
     let mut nameless = STANDARD;
     nameless[9] = 0;
-    assert!(rt; report(heap, &nameless)?.as_slice() == b"read 39 bytes\nno 5 file 1\n");
+    assert!(rt; report(heap, &nameless)?.as_slice() == b"read 39 bytes\nno 5 file 1\n".as_slice());
     let mut steep = STANDARD;
     steep[12] = 61;
-    assert!(rt; report(heap, &steep)?.as_slice() == b"read 39 bytes\nno 6 file 1\n");
+    assert!(rt; report(heap, &steep)?.as_slice() == b"read 39 bytes\nno 6 file 1\n".as_slice());
     Ok(())
 }
 
@@ -41,14 +45,16 @@ fn a_long_input_is_measured(rt: HostRuntime) -> Result<(), Fail> {
     let heap = rt.alloc();
     let longest = vec![in heap; 255u8; 65535]?;
     assert!(rt;
-        report(heap, longest.as_slice())?.as_slice() == b"read 65535 bytes\nno 2 file\n",
+        report(heap, longest.as_slice())?.as_slice() == b"read 65535 bytes\nno 2 file\n".as_slice(),
         "the length that it says"
     );
     let longer = vec![in heap; 255u8; 65536]?;
-    assert!(rt; report(heap, longer.as_slice())?.as_slice() == b"read 65536 bytes\nno 1 file\n");
+    assert!(rt;
+        report(heap, longer.as_slice())?.as_slice() == b"read 65536 bytes\nno 1 file\n".as_slice()
+    );
     let turned = vec![in heap; 1u8; 65793]?;
     assert!(rt;
-        report(heap, turned.as_slice())?.as_slice() == b"read 65793 bytes\nno 1 file\n",
+        report(heap, turned.as_slice())?.as_slice() == b"read 65793 bytes\nno 1 file\n".as_slice(),
         "65,536 more than it says"
     );
     Ok(())

@@ -1,6 +1,5 @@
 use preset::read;
 use std::alloc::{AllocError, Global};
-use std::process::Abort;
 use std::test::Fail;
 
 // The file of the PZB 90 preset, number 1, `Standard`: its header, its entry up to the rows O, M and U, and the name.
@@ -37,12 +36,7 @@ pub(crate) fn outcome(bytes: &[u8]) -> (u8, u8) {
 }
 
 // Changes the bytes by each case in turn, and compares.
-pub(crate) fn check_cases(
-    rt: &impl Abort,
-    heap: Global,
-    bytes: &[u8],
-    cases: &[Case],
-) -> Result<(), Fail> {
+pub(crate) fn check_cases(heap: Global, bytes: &[u8], cases: &[Case]) -> Result<(), Fail> {
     for (edits, expected, what) in cases {
         let mut copy = bytes.to_vec(heap)?;
         for (at, value) in *edits {
@@ -51,7 +45,9 @@ pub(crate) fn check_cases(
             };
             *b = *value;
         }
-        assert_eq!(rt; outcome(copy.as_slice()), *expected, "{}", *what);
+        if outcome(copy.as_slice()) != *expected {
+            return Err(Fail::new(*what));
+        }
     }
     Ok(())
 }

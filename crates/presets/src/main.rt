@@ -1,3 +1,5 @@
+#![tactic(auto)]
+
 use listing::report;
 use std::io;
 use std::io::{Read, Write};

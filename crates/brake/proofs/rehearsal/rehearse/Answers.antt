@@ -15,4 +15,4 @@ returns g c =
     let m = g.B.Brake.meaning in
     let e = at_drop_all some_low c.args.told.now c.loop-pressure.pressure-index (omega arith) in
     let settled : m.facts.settled c.loop-pressure.brake ≡ (some_low c.args.told.now || m.at_once) = grind (arith, nat_tests) in
-    rehearsed m c.args.told.now c.loop-pressure.brake c.let-off.new.self c.let-off.result c.loop-pressure.invariant.0 settled c.let-off.ensures
+    rehearsed m c.args.told.now c.loop-pressure.brake c.let_off.new.self c.let_off.result c.loop-pressure.invariant.0 settled c.let_off.ensures

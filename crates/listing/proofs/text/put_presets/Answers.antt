@@ -18,8 +18,8 @@ loop-preset-preserved c =
     let l = lies_here b ps i x (omega arith) c.preset-item.is c.loop-preset.invariant.0 in
     let o = vec_items c.loop-preset.out in
     let rows = three_rows x.rows in
-    let more : vec_items c.put-preset.new.out ≡ o ++ preset_lines (named b x).number (named b x).name (named b x).rows =
-    c.in-ok-put-preset.ensures ∙ ap (λ t. o ++ preset_lines x.number.value t rows) c.in-Some.ensures.1 in
+    let more : vec_items c.put_preset.new.out ≡ o ++ preset_lines (named b x).number (named b x).name (named b x).rows =
+    c.in_ok-put_preset-in-Some.ensures ∙ ap (λ t. o ++ preset_lines x.number.value t rows) c.in-Some.ensures.1 in
     let rest = all_lines (all_named b (drop (i + 1) ps)) in (
       l.1,
       ap (λ t. t ++ rest) more ∙
