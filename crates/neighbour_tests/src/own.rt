@@ -1,7 +1,7 @@
 // A buyer's own odometer and brake: what their impls show is all that a set will ask of them. Neither can be copied or let go.
 ghost use Rattle.std.specs.Prelude.{◌+◌, ◌*◌, ◌≤◌, true, if◌then◌else◌, Ok, Err, nat_lt};
 ghost use Rattle.odometer.specs.declared.fault.Fault.TheVariants.{BeyondRange, TooFar};
-ghost use Rattle.std.proofs.Common.{rules, arith};
+ghost use Rattle.std.proofs.Common.{rules};
 
 use crate::readings::read;
 use brake::{Brake, Pressure, Refusal, rehearse};
@@ -18,9 +18,9 @@ impl Odometer for Tape {
 
     ghost meaning = { record { way = λ t. t.metres * 1000; reads = λ t r. (if nat_lt 200 r then Err TooFar else (if nat_lt 10000 (t.metres + r) then Err BeyondRange else Ok ((t.metres + r) * 1000))) } };
 
-    ghost bounded = { first_of (Prim.search rules, Prim.grind (arith, Self.row.coded.inj)) };
+    ghost bounded = { Prim.search rules };
 
-    ghost moves = { first_of (Prim.search rules, Prim.grind (arith, Self.row.coded.inj)) };
+    ghost moves = { Prim.search rules };
 
     fn take(&mut self, reading: u8) -> Result<Way, Fault> {
         if reading > 200 {

@@ -1,5 +1,5 @@
 -- The way of a telegram odometer.
-use Rattle.std.specs.Prelude.{ℕ, ◌-◌, ◌*◌, Bool, Result, nat_lt}
+use Rattle.std.specs.Prelude.{ℕ, ◌-◌, ◌*◌, Result, nat_lt}
 use Rattle.odometer.specs.Way.{outcome, too_far}
 use Rattle.odometer.specs.declared.fault.Fault.{Fault}
 

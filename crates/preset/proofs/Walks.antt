@@ -1,11 +1,11 @@
 -- A walk over the entries of an accepted file.
-use Rattle.std.proofs.Common.{◌≡◌, ℕ, ◌+◌, ◌-◌, ◌<◌, ◌≤◌, true, leb, List, [], ◌∷◌, ◌++◌, map, length, take, drop, None, sym, refl, ap, ◌∙◌, subst, arith}
+use Rattle.std.proofs.Common.{◌≡◌, ℕ, ◌+◌, ◌<◌, ◌≤◌, true, leb, List, [], ◌∷◌, ◌++◌, map, length, take, drop, None, sym, refl, ap, ◌∙◌, subst, arith}
 use Rattle.std.proofs.lemmas.List.{length-drop, length-take-le, map-append, append_assoc, length-map}
 use Rattle.std.proofs.lemmas.Bool.{eq-eqb, ne_eqb, le-leb}
 use Rattle.preset.specs.Rule.{rows_keep}
 use Rattle.preset.specs.Width.{number_of, size_of, rows_of}
 use Rattle.preset.specs.Format.{Named, Held, base, total, located, encoded}
-use Rattle.preset.specs.Entries.{Claim, claim, claims, count_in, count_fits, plain, faults, unless, decoded, held, numbered, first_refusal}
+use Rattle.preset.specs.Entries.{Claim, claim, count_in, count_fits, plain, faults, unless, decoded, held, numbered, first_refusal}
 use Rattle.preset.specs.Presets.{named, all_named, held_as, part, claimed, AllLieIn}
 use Rattle.preset.specs.Steps.{Says, Lies, inside}
 use Rattle.preset.specs.Calls.{Lists}

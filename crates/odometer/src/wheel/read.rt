@@ -5,7 +5,7 @@ ghost use Rattle.std.proofs.lemmas.Bool.{or_parts};
 ghost use Rattle.odometer.specs.Way.{too_far};
 ghost use Rattle.odometer.specs.Moves.{outcome_moves_a_little};
 ghost use Rattle.odometer.specs.WheelSums.{way_rises};
-ghost use Rattle.std.proofs.Common.{rules, arith};
+ghost use Rattle.std.proofs.Common.{rules};
 
 use super::Wheel;
 use crate::{Fault, Odometer, Pulses, Way};
@@ -38,7 +38,7 @@ impl Odometer for Wheel {
 
     ghost meaning = { wheel_meaning };
 
-    ghost bounded = { first_of (Prim.search rules, Prim.grind (arith, Self.row.coded.inj)) };
+    ghost bounded = { Prim.search rules };
 
     ghost moves = { λ w r.
         let before = way_with w w.pulses in

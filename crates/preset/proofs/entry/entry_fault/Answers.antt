@@ -1,5 +1,4 @@
 use Rattle.std.proofs.Common.{◌≡◌, true, ltb, sym, ap, ◌∙◌}
-use Rattle.preset.specs.Width.{number_of}
 use Rattle.preset.specs.Entries.{claim, name_fits}
 use Rattle.preset.proofs.Claims.{claim_within, fit, rows_fail, passes}
 use Rattle.preset.proofs.entry.entry_fault.Goals as goal
