@@ -5,26 +5,28 @@ ghost use Rattle.odometer.specs.Way.{outcome, too_far};
 use crate::Fault;
 
 // A way from where an odometer began to count, in millimetres.
-#[derive(Clone, Copy)]
+#[derive(Clone, Copy, PartialEq, Eq, PartialOrd, Ord, Debug)]
 pub struct Way {
     pub millimetres: u64,
 }
 
-// The longest way: a million kilometres.
-const WAY_MOST: u64 = 1_000_000_000_000;
-// The longest move of one reading.
-const MOVE_MOST: u64 = 200_000;
-
 impl Way {
+    // The longest way: a million kilometres.
+    const MOST: Way = Way {
+        millimetres: 1_000_000_000_000,
+    };
+    // The longest move of one reading, in millimetres. It is no `Way`, since it is not counted from the beginning.
+    const MOVE_MOST: u64 = 200_000;
+
     // The way that a reading leads to from the one before, or why it is not taken.
     pub(crate) fn reached_from(self, before: Way) -> Result<Way, Fault>
         requires { before.millimetres ≤ self.millimetres }
         ensures { in_millimetres result ≡ outcome false (too_far before.millimetres self.millimetres) self.millimetres }
     {
-        if self.millimetres - before.millimetres > MOVE_MOST {
+        if self.millimetres - before.millimetres > Way::MOVE_MOST {
             return Err(Fault::TooFar);
         }
-        if self.millimetres > WAY_MOST {
+        if self > Way::MOST {
             return Err(Fault::BeyondRange);
         }
         Ok(self)

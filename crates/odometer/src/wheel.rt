@@ -1,11 +1,9 @@
-ghost use Rattle.std.specs.Prelude.{◌≡◌, ◌≤◌, true};
+ghost use Rattle.std.specs.Prelude.{◌≡◌, ◌+◌, ◌^◌, ◌<◌, ◌≤◌, true};
 ghost use Rattle.odometer.specs.Way.{way_most};
 ghost use Rattle.odometer.specs.WheelWay.{wheel_limits, wheel_way};
 
-use crate::{Circumference, Pulses};
+use crate::{Circumference, Fault, Odometer, Pulses, Refusal, Way};
 
-mod make;
-mod read;
 #[cfg(test)]
 mod tests;
 
@@ -19,4 +17,82 @@ pub struct Wheel {
     pulses: u64,
     ghost limits: { wheel_limits circumference.millimetres turn.count ≡ true },
     ghost in_range: { wheel_way circumference.millimetres turn.count pulses ≤ way_most },
+}
+
+impl Wheel {
+    ghost use Rattle.odometer.specs.Wheel.{MakesWheel, way_with};
+
+    // A wheel of that circumference and those pulses a turn, which has had no pulse yet, or a refusal where they are outside their limits.
+    pub fn new(circumference: Circumference, turn: Pulses) -> Result<Wheel, Refusal>
+        ensures { MakesWheel circumference turn result }
+    {
+        if !(1_500..=4_500).contains(&circumference.millimetres)
+            || !(16..=256).contains(&turn.count)
+        {
+            return Err(Refusal::WheelLimits);
+        }
+        Ok(Wheel {
+            circumference,
+            turn,
+            pulses: 0,
+        })
+    }
+
+    // The way of so many pulses, few enough that the product fits.
+    fn way_of(&self, pulses: u64) -> Way
+        requires { pulses < 2 ^ 39 }
+        ensures { result.millimetres ≡ way_with self.now pulses }
+    {
+        Way {
+            millimetres: pulses * u64::from(self.circumference.millimetres)
+                / u64::from(self.turn.count),
+        }
+    }
+
+    // The way once so many more pulses have come.
+    fn way_after(&self, more: Pulses) -> Way
+        ensures { result.millimetres ≡ way_with self.now (self.now.pulses + more.count) }
+    {
+        let pulses = self.pulses + u64::from(more.count);
+        self.way_of(pulses)
+    }
+}
+
+impl Odometer for Wheel {
+    ghost use Rattle.std.specs.Prelude.{false, ◌||◌, nat_lt};
+    ghost use Rattle.odometer.specs.Meaning.{Takes};
+    ghost use Rattle.odometer.specs.Wheel.{AddsPulses, way_with, wheel_meaning, reading_most};
+    ghost use Rattle.std.proofs.lemmas.Bool.{or_parts};
+    ghost use Rattle.odometer.specs.Way.{too_far};
+    ghost use Rattle.odometer.specs.Moves.{outcome_moves_a_little};
+    ghost use Rattle.odometer.specs.WheelSums.{way_rises};
+    ghost use Rattle.std.proofs.Common.{rules};
+
+    type Reading = Pulses;
+
+    ghost meaning = { wheel_meaning };
+
+    ghost bounded = { Prim.search rules };
+
+    ghost moves = { λ w r.
+        let before = way_with w w.pulses in
+        let after = way_with w (w.pulses + r.count) in
+        outcome_moves_a_little false (nat_lt reading_most r.count || too_far before after) before after (λ forwards. way_rises w r.count)
+        (λ near. (or_parts (nat_lt reading_most r.count) (too_far before after) near).1) };
+
+    fn take(&mut self, reading: Pulses) -> Result<Way, Fault>
+        ensures taken { Takes wheel_meaning self.old reading result self.new }
+        ensures adds_its_pulses { AddsPulses self.old reading result self.new }
+    {
+        if reading > Pulses::READING_MOST {
+            return Err(Fault::TooFar);
+        }
+        let way = self.way_after(reading).reached_from(self.way())?;
+        self.pulses += u64::from(reading.count);
+        Ok(way)
+    }
+
+    fn way(&self) -> Way {
+        self.way_after(Pulses { count: 0 })
+    }
 }
