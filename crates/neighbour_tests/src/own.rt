@@ -26,7 +26,7 @@ impl Odometer for Tape {
         if reading > 200 {
             return Err(Fault::TooFar);
         }
-        let metres = self.metres + reading as u64;
+        let metres = self.metres + u64::from(reading);
         if metres > 10_000 {
             return Err(Fault::BeyondRange);
         }
@@ -95,10 +95,10 @@ fn a_tape_answers_faults_of_its_own(rt: HostRuntime) {
     assert_eq!(rt;
         readings,
         [
-            (0, 9_900_000),
-            (15, 9_900_000),
-            (17, 9_900_000),
-            (0, 10_000_000),
+            (None, 9_900_000),
+            (Some(15), 9_900_000),
+            (Some(17), 9_900_000),
+            (None, 10_000_000),
         ]
     );
     assert_eq!(rt; metres, 10_000);

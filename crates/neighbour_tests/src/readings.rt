@@ -1,9 +1,9 @@
 use odometer::Odometer;
 
-// The number of the reading's fault, or 0 where it is good, and the way afterwards. A good reading answers that way.
-pub(crate) fn read<O: Odometer>(odometer: &mut O, reading: O::Reading) -> (u8, u64) {
+// The number of the reading's fault, if it has one, and the way afterwards. A good reading answers that way.
+pub(crate) fn read<O: Odometer>(odometer: &mut O, reading: O::Reading) -> (Option<u8>, u64) {
     match odometer.take(reading) {
-        Ok(way) => (0, way.millimetres),
-        Err(fault) => (fault.number(), odometer.way().millimetres),
+        Ok(way) => (None, way.millimetres),
+        Err(fault) => (Some(fault.number()), odometer.way().millimetres),
     }
 }

@@ -5,5 +5,4 @@ pub mod WheelWay
 pub mod Wheel
 pub mod TelegramWay
 pub mod Telegram
-pub mod Moves
-pub mod WheelSums
+pub mod WheelRises

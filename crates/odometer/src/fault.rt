@@ -28,6 +28,6 @@ impl Fault {
     pub fn layer(self) -> &'static str
         ensures { result.now ≡ fault_layer self }
     {
-        "odometer"
+        crate::LAYER
     }
 }

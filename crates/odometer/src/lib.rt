@@ -16,3 +16,6 @@ pub use telegram::Telegram;
 pub use units::{Circumference, Place, Pulses};
 pub use way::Way;
 pub use wheel::Wheel;
+
+// The layer of faults and refusals. Each enum has `number` and `layer` of its own: a trait for both would be one more name for callers to import.
+const LAYER: &str = "odometer";

@@ -22,6 +22,6 @@ impl Refusal {
     pub fn layer(self) -> &'static str
         ensures { result.now ≡ refusal_layer self }
     {
-        "odometer"
+        crate::LAYER
     }
 }

@@ -12,11 +12,6 @@ pub struct Pulses {
     pub count: u32,
 }
 
-impl Pulses {
-    // The most that a reading can have.
-    pub(crate) const READING_MOST: Pulses = Pulses { count: 65_535 };
-}
-
 // A place on the line.
 #[derive(Clone, Copy, PartialEq, Eq, PartialOrd, Ord, Debug)]
 pub struct Place {

@@ -22,6 +22,9 @@ pub struct Wheel {
 impl Wheel {
     ghost use Rattle.odometer.specs.Wheel.{MakesWheel, way_with};
 
+    // The most pulses that a reading can have.
+    const READING_MOST: Pulses = Pulses { count: 65_535 };
+
     // A wheel of that circumference and those pulses a turn, which has had no pulse yet, or a refusal where they are outside their limits.
     pub fn new(circumference: Circumference, turn: Pulses) -> Result<Wheel, Refusal>
         ensures { MakesWheel circumference turn result }
@@ -59,13 +62,9 @@ impl Wheel {
 }
 
 impl Odometer for Wheel {
-    ghost use Rattle.std.specs.Prelude.{false, ◌||◌, nat_lt};
     ghost use Rattle.odometer.specs.Meaning.{Takes};
-    ghost use Rattle.odometer.specs.Wheel.{AddsPulses, way_with, wheel_meaning, reading_most};
-    ghost use Rattle.std.proofs.lemmas.Bool.{or_parts};
-    ghost use Rattle.odometer.specs.Way.{too_far};
-    ghost use Rattle.odometer.specs.Moves.{outcome_moves_a_little};
-    ghost use Rattle.odometer.specs.WheelSums.{way_rises};
+    ghost use Rattle.odometer.specs.Wheel.{AddsPulses, wheel_meaning};
+    ghost use Rattle.odometer.specs.WheelRises.{way_rises};
     ghost use Rattle.std.proofs.Common.{rules};
 
     type Reading = Pulses;
@@ -74,17 +73,13 @@ impl Odometer for Wheel {
 
     ghost bounded = { Prim.search rules };
 
-    ghost moves = { λ w r.
-        let before = way_with w w.pulses in
-        let after = way_with w (w.pulses + r.count) in
-        outcome_moves_a_little false (nat_lt reading_most r.count || too_far before after) before after (λ forwards. way_rises w r.count)
-        (λ near. (or_parts (nat_lt reading_most r.count) (too_far before after) near).1) };
+    ghost moves = { Prim.search (rules, way_rises) };
 
     fn take(&mut self, reading: Pulses) -> Result<Way, Fault>
         ensures taken { Takes wheel_meaning self.old reading result self.new }
         ensures adds_its_pulses { AddsPulses self.old reading result self.new }
     {
-        if reading > Pulses::READING_MOST {
+        if reading > Wheel::READING_MOST {
             return Err(Fault::TooFar);
         }
         let way = self.way_after(reading).reached_from(self.way())?;

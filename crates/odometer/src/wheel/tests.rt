@@ -3,12 +3,9 @@ use crate::{Circumference, Fault, Odometer, Pulses};
 
 // Nobody else can make a wheel that has come so far already.
 
-// The number of the fault, or 0, and the way afterwards.
-fn read(wheel: &mut Wheel, count: u32) -> (u8, u64) {
-    let fault = match wheel.take(Pulses { count }) {
-        Ok(_) => 0,
-        Err(fault) => fault.number(),
-    };
+// The number of the fault, if there is one, and the way afterwards.
+fn read(wheel: &mut Wheel, count: u32) -> (Option<u8>, u64) {
+    let fault = wheel.take(Pulses { count }).err().map(Fault::number);
     (fault, wheel.way().millimetres)
 }
 
@@ -20,9 +17,9 @@ fn up_to_the_longest_way_and_no_further(rt: HostRuntime) {
         turn: Pulses { count: 16 },
         pulses: 9_999_999_999,
     };
-    assert_eq!(rt; read(&mut wheel, 1), (0, 1_000_000_000_000));
-    assert_eq!(rt; read(&mut wheel, 1), (17, 1_000_000_000_000));
-    assert_eq!(rt; read(&mut wheel, 0), (0, 1_000_000_000_000));
+    assert_eq!(rt; read(&mut wheel, 1), (None, 1_000_000_000_000));
+    assert_eq!(rt; read(&mut wheel, 1), (Some(17), 1_000_000_000_000));
+    assert_eq!(rt; read(&mut wheel, 0), (None, 1_000_000_000_000));
 }
 
 #[test]
@@ -33,10 +30,10 @@ fn one_millimetre_beyond_the_longest_way(rt: HostRuntime) {
         turn: Pulses { count: 64 },
         pulses: 21_843_003_412,
     };
-    assert_eq!(rt; read(&mut wheel, 1), (17, 999_999_999_955));
+    assert_eq!(rt; read(&mut wheel, 1), (Some(17), 999_999_999_955));
     assert_eq!(rt;
         read(&mut wheel, 20_000),
-        (15, 999_999_999_955),
+        (Some(15), 999_999_999_955),
         "too far comes before beyond"
     );
 }
