@@ -1,4 +1,6 @@
 ghost use Rattle.std.specs.Prelude.{◌≡◌, ◌≤◌, None};
+ghost use Rattle.std.proofs.Common.{rules};
+ghost use Rattle.odometer.specs.Meaning.{Takes};
 ghost use Rattle.odometer.specs.TelegramWay.{telegram_way};
 ghost use Rattle.odometer.specs.Way.{way_most};
 
@@ -68,9 +70,7 @@ impl Telegram {
 }
 
 impl Odometer for Telegram {
-    ghost use Rattle.odometer.specs.Meaning.{Takes};
     ghost use Rattle.odometer.specs.Telegram.{Remembers, telegram_meaning};
-    ghost use Rattle.std.proofs.Common.{rules};
 
     type Reading = Place;
 

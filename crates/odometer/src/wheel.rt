@@ -1,4 +1,6 @@
 ghost use Rattle.std.specs.Prelude.{◌≡◌, ◌+◌, ◌^◌, ◌<◌, ◌≤◌, true};
+ghost use Rattle.std.proofs.Common.{rules};
+ghost use Rattle.odometer.specs.Meaning.{Takes};
 ghost use Rattle.odometer.specs.Way.{way_most};
 ghost use Rattle.odometer.specs.WheelWay.{wheel_limits, wheel_way};
 
@@ -62,10 +64,8 @@ impl Wheel {
 }
 
 impl Odometer for Wheel {
-    ghost use Rattle.odometer.specs.Meaning.{Takes};
     ghost use Rattle.odometer.specs.Wheel.{AddsPulses, wheel_meaning};
     ghost use Rattle.odometer.specs.WheelRises.{way_rises};
-    ghost use Rattle.std.proofs.Common.{rules};
 
     type Reading = Pulses;
 
