@@ -1,8 +1,8 @@
 -- What applying does to a brake.
-use Rattle.std.specs.Prelude.{◌≡◌, true}
-use Rattle.brake.specs.Meaning.{BrakeMeaning}
+use Rattle.std.specs.Prelude.{◌≡◌, Bool, true}
+use Rattle.brake.specs.Meaning.{Facts}
 
 -- apply makes it applied; whether it then is settled is a fact of its kind
-pub record Applies {B : Type 0} (m : BrakeMeaning B) (after : B) : Type 0 where
-  pub applied : m.facts.applied after ≡ true
-  pub settled : m.facts.settled after ≡ m.at_once
+pub record Applies {B : Type 0} (f : Facts B) (at_once : Bool) (after : B) : Type 0 where
+  pub applied : f.applied after ≡ true
+  pub settled : f.settled after ≡ at_once

@@ -1,5 +1,5 @@
 -- What telling a pressure and letting off do to a brake.
-use Rattle.std.specs.Prelude.{◌≡◌, ℕ, Bool, false, cond, ◌&&◌, ◌||◌, Ok, Err, Result, MatchResult, nat_lt}
+use Rattle.std.specs.Prelude.{◌≡◌, ℕ, Bool, false, if◌then◌else◌, ◌&&◌, ◌||◌, Ok, Err, Result, MatchResult, nat_lt}
 use Rattle.brake.specs.Meaning.{Facts, Off}
 use Rattle.brake.specs.declared.refusal.Refusal.{Refusal}
 use Rattle.brake.specs.declared.refusal.Refusal.TheVariants.{NotSettled}
@@ -16,7 +16,7 @@ pub record Tells {B : Type 0} (f : Facts B) (pressure : ℕ) (before after : B) 
 
 -- what letting off answers
 abbrev pub let_off_answer : (settled : Bool) → Result (Unit {0}) Refusal
-let_off_answer settled = cond settled (Ok tt) (Err NotSettled)
+let_off_answer settled = if settled then Ok tt else Err NotSettled
 
 -- let off is refused while not settled, altering nothing, and otherwise ends both facts
 pub record LetsOff {B : Type 0} (f : Facts B) (before : B) (answer : Result (Unit {0}) Refusal) (after : B) : Type 0 where

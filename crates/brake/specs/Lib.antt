@@ -2,5 +2,5 @@ pub mod Refusals
 pub mod Meaning
 pub mod Applying
 pub mod LettingOff
-pub mod Shipped
+pub mod PlainBrake
 pub mod Rehearsal

@@ -8,12 +8,6 @@ pub record Facts (B : Type 0) : Type 0 where
   -- it is settled, so that it may be let off
   pub settled : B → Bool
 
--- what a brake means: its two facts, and one of its kind
-pub record BrakeMeaning (B : Type 0) : Type 0 where
-  pub facts : Facts B
-  -- a brake of this kind is settled as soon as it is applied
-  pub at_once : Bool
-
 -- a brake has neither fact
 pub record Off {B : Type 0} (f : Facts B) (b : B) : Type 0 where
   pub not_applied : f.applied b ≡ false

@@ -1,41 +1,37 @@
 ghost use Rattle.std.specs.Prelude.{◌≡◌, Bool};
 ghost use Rattle.brake.specs.Applying.{Applies};
 ghost use Rattle.brake.specs.LettingOff.{LetsOff, Tells};
-ghost use Rattle.brake.specs.Meaning.{BrakeMeaning};
+ghost use Rattle.brake.specs.Meaning.{Facts};
 
 use crate::{Pressure, Refusal};
 
 // A brake that forces the train to stop. It means two facts: it is applied, and it is settled, so that it may be let off.
 pub trait Brake {
-    ghost meaning: { BrakeMeaning Self };
+    ghost meaning: { Facts Self };
 
     // Whether a brake of this kind is settled as soon as it is applied.
     const SETTLES_AT_ONCE: bool;
 
     ghost SETTLES_AT_ONCE: { Bool };
 
-    // Answers the constant, which this ties to what the brake means.
-    fn settled_when_applied() -> bool
-        ensures { result ≡ meaning.at_once };
-
     // What applying needs.
 
     fn apply(&mut self)
-        ensures { Applies meaning self.new };
+        ensures { Applies meaning SETTLES_AT_ONCE self.new };
 
     fn is_applied(&self) -> bool
-        ensures { result ≡ meaning.facts.applied self.now };
+        ensures { result ≡ meaning.applied self.now };
 
     // What letting off needs besides.
 
     // Tells the brake the pressure in the brake pipe.
     fn tell(&mut self, pressure: Pressure)
-        ensures { Tells meaning.facts pressure.hundredths self.old self.new };
+        ensures { Tells meaning pressure.hundredths self.old self.new };
 
     // Lets the brake off, or refuses while it is not settled.
     fn let_off(&mut self) -> Result<(), Refusal>
-        ensures { LetsOff meaning.facts self.old result self.new };
+        ensures { LetsOff meaning self.old result self.new };
 
     fn is_settled(&self) -> bool
-        ensures { result ≡ meaning.facts.settled self.now };
+        ensures { result ≡ meaning.settled self.now };
 }

@@ -2,16 +2,13 @@
 #![tactic(auto)]
 
 mod brake;
-mod brake_loop;
+mod plain_brake;
 mod pressure;
 mod refusal;
 mod rehearsal;
-mod state;
-mod valve;
 
 pub use brake::Brake;
-pub use brake_loop::BrakeLoop;
+pub use plain_brake::{BrakeLoop, PlainBrake, Valve};
 pub use pressure::Pressure;
 pub use refusal::Refusal;
 pub use rehearsal::rehearse;
-pub use valve::Valve;

@@ -1,6 +1,7 @@
-use brake::{Brake, BrakeLoop, Pressure, Valve, rehearse};
+use brake::{Brake, BrakeLoop, Pressure, Refusal, Valve, rehearse};
 use std::test::Fail;
 
+// A table of steps and outcomes is plainer than a call and a comparison for each.
 #[derive(Clone, Copy)]
 enum Step {
     Apply,
@@ -8,20 +9,17 @@ enum Step {
     LetOff,
 }
 
-// A step, the number of its refusal, or 0, and then whether the brake is applied and whether it is settled.
-type Case = (Step, u8, bool, bool);
+// A step, the number of its refusal, and then whether the brake is applied and whether it is settled.
+type Case = (Step, Option<u8>, bool, bool);
 
-// Makes one step, and answers the number of the refusal, or 0.
-fn make<B: Brake>(brake: &mut B, step: Step) -> u8 {
+// Makes one step, and answers the number of the refusal, if there is one.
+fn make<B: Brake>(brake: &mut B, step: Step) -> Option<u8> {
     match step {
         Step::Apply => brake.apply(),
         Step::Tell(hundredths) => brake.tell(Pressure { hundredths }),
-        Step::LetOff => match brake.let_off() {
-            Ok(_) => {}
-            Err(refusal) => return refusal.number(),
-        },
+        Step::LetOff => return brake.let_off().err().map(Refusal::number),
     }
-    0
+    None
 }
 
 // A new brake has neither fact; then each step in turn.
@@ -29,9 +27,9 @@ fn check_steps<B: Brake>(brake: &mut B, cases: &[Case]) -> Result<(), Fail> {
     if (brake.is_applied(), brake.is_settled()) != (false, false) {
         return Err(Fail::new("a new brake has one of the facts"));
     }
-    for (at, (step, number, applied, settled)) in cases.iter().enumerate() {
-        let refusal = make(brake, *step);
-        if (refusal, brake.is_applied(), brake.is_settled()) != (*number, *applied, *settled) {
+    for (at, &(step, number, applied, settled)) in cases.iter().enumerate() {
+        let refusal = make(brake, step);
+        if (refusal, brake.is_applied(), brake.is_settled()) != (number, applied, settled) {
             return Err(Fail::new(at));
         }
     }
@@ -43,19 +41,19 @@ fn a_valve_settles_when_the_pressure_has_fallen() -> Result<(), Fail> {
     check_steps(
         &mut Valve::new(),
         &[
-            (Step::LetOff, 24, false, false),
-            (Step::Tell(0), 0, false, false),
-            (Step::Apply, 0, true, false),
-            (Step::LetOff, 24, true, false),
-            (Step::Tell(350), 0, true, false),
-            (Step::Tell(500), 0, true, false),
-            (Step::Tell(349), 0, true, true),
-            (Step::Tell(500), 0, true, true),
-            (Step::Apply, 0, true, false),
-            (Step::Tell(0), 0, true, true),
-            (Step::LetOff, 0, false, false),
-            (Step::LetOff, 24, false, false),
-            (Step::Tell(349), 0, false, false),
+            (Step::LetOff, Some(24), false, false),
+            (Step::Tell(0), None, false, false),
+            (Step::Apply, None, true, false),
+            (Step::LetOff, Some(24), true, false),
+            (Step::Tell(350), None, true, false),
+            (Step::Tell(500), None, true, false),
+            (Step::Tell(349), None, true, true),
+            (Step::Tell(500), None, true, true),
+            (Step::Apply, None, true, false),
+            (Step::Tell(0), None, true, true),
+            (Step::LetOff, None, false, false),
+            (Step::LetOff, Some(24), false, false),
+            (Step::Tell(349), None, false, false),
         ],
     )
 }
@@ -65,27 +63,27 @@ fn a_loop_settles_at_once() -> Result<(), Fail> {
     check_steps(
         &mut BrakeLoop::new(),
         &[
-            (Step::LetOff, 24, false, false),
-            (Step::Tell(349), 0, false, false),
-            (Step::Apply, 0, true, true),
-            (Step::Tell(500), 0, true, true),
-            (Step::Tell(349), 0, true, true),
-            (Step::Apply, 0, true, true),
-            (Step::LetOff, 0, false, false),
-            (Step::LetOff, 24, false, false),
+            (Step::LetOff, Some(24), false, false),
+            (Step::Tell(349), None, false, false),
+            (Step::Apply, None, true, true),
+            (Step::Tell(500), None, true, true),
+            (Step::Tell(349), None, true, true),
+            (Step::Apply, None, true, true),
+            (Step::LetOff, None, false, false),
+            (Step::LetOff, Some(24), false, false),
         ],
     )
 }
 
-// What the kind of a brake says, by its constant and by its method.
-fn kind<B: Brake>() -> (bool, bool) {
-    (B::SETTLES_AT_ONCE, B::settled_when_applied())
+// The kind of a brake, by its bound.
+fn settles_at_once<B: Brake>() -> bool {
+    B::SETTLES_AT_ONCE
 }
 
 #[test]
 fn the_kinds(rt: HostRuntime) {
-    assert_eq!(rt; kind::<Valve>(), (false, false));
-    assert_eq!(rt; kind::<BrakeLoop>(), (true, true));
+    assert_eq!(rt; settles_at_once::<Valve>(), false);
+    assert_eq!(rt; settles_at_once::<BrakeLoop>(), true);
 }
 
 // Whether a brake is let off once it was applied and told these pressures.
@@ -106,11 +104,10 @@ fn what_a_brake_was_told_since_it_was_applied(rt: HostRuntime) {
 
 #[test]
 fn a_refusal_has_its_layer(rt: HostRuntime) -> Result<(), Fail> {
-    match Valve::new().let_off() {
-        Ok(_) => Err(Fail::new("a new valve is let off")),
-        Err(refusal) => {
-            assert_eq!(rt; refusal.layer(), "brake");
-            Ok(())
-        },
-    }
+    let refusal = Valve::new()
+        .let_off()
+        .err()
+        .ok_or("a new valve is let off")?;
+    assert_eq!(rt; refusal.layer(), "brake");
+    Ok(())
 }

@@ -48,15 +48,11 @@ struct Counting {
 }
 
 impl Brake for Counting {
-    ghost meaning = { record { facts = record { applied = λ b. b.applied; settled = λ b. b.applied }; at_once = true } };
+    ghost meaning = { record { applied = λ b. b.applied; settled = λ b. b.applied } };
 
     const SETTLES_AT_ONCE: bool = true;
 
     ghost SETTLES_AT_ONCE = { true };
-
-    fn settled_when_applied() -> bool {
-        Self::SETTLES_AT_ONCE
-    }
 
     fn apply(&mut self) {
         self.applied = true;

@@ -1,10 +1,8 @@
-use Rattle.std.proofs.Common.{◌≡◌, true, ◌||◌, drop}
+use Rattle.std.proofs.Common.{◌||◌, take}
+use Rattle.brake.specs.Applying.{Applies}
 use Rattle.brake.specs.Rehearsal.{some_low}
 use Rattle.brake.proofs.rehearsal.rehearse.Given as goal
 
--- it stays applied, and what it is with the pressures still to come is what it comes to
+-- told the pressures so far, it is as if it was applied just now, and settled at once where one of them was low
 abbrev pub invariant-loop-pressure : goal.invariant-loop-pressure
-invariant-loop-pressure g l =
-    let m = g.B.Brake.meaning in
-    (m.facts.applied l.brake ≡ true) ×
-    ((m.facts.settled l.brake || some_low (drop l.pressure-index l.told)) ≡ (some_low l.told || m.at_once))
+invariant-loop-pressure g l = Applies g.B.Brake.meaning (some_low (take l.pressure-index l.told) || g.B.Brake.SETTLES_AT_ONCE) l.brake
