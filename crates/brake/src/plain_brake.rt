@@ -19,7 +19,7 @@ pub type Valve = PlainBrake<false>;
 pub type BrakeLoop = PlainBrake<true>;
 
 impl<const AT_ONCE: bool> PlainBrake<AT_ONCE> {
-    // A brake with neither fact. It says of which kind each of the two names is, so that neither can be given to the other.
+    // A brake with neither fact. Its clauses on the two aliases pin each to its kind.
     pub fn new() -> Self
         ensures off { Off plain_facts result }
         ensures valve_waits_for_the_pressure { ⟦<Valve as Brake>⟧.SETTLES_AT_ONCE ≡ false }
