@@ -1,5 +1,5 @@
 -- The report on a preset file: a line for the input, the presets or the refusal, and a line for what was written back.
-use Rattle.std.specs.Prelude.{ℕ, Bool, true, false, List, [], ◌∷◌, ◌++◌, length, Some, None, codes, decimal, Option}
+use Rattle.std.specs.Prelude.{ℕ, List, [], ◌∷◌, ◌++◌, flat_map, length, Some, None, codes, decimal, Option}
 use Rattle.preset.specs.Entries.{first_refusal, decoded}
 use Rattle.preset.specs.Format.{Named}
 use Rattle.preset.specs.Refusals.{refusal_number, refusal_entry, refusal_layer}
@@ -7,6 +7,8 @@ use Rattle.preset.specs.Rule.{ThreeRows, row_of}
 use Rattle.preset.specs.declared.programme.Programme.{Programme}
 use Rattle.preset.specs.declared.programme.Programme.TheVariants.{O, M, U}
 use Rattle.preset.specs.declared.refusal.Refusal.{Refusal}
+use Rattle.listing.specs.declared.lines.Verdict.{Verdict}
+use Rattle.listing.specs.declared.lines.Verdict.TheVariants.{Same, Differs}
 
 -- each line ends in byte 10
 abbrev pub line_end : List ℕ
@@ -41,8 +43,7 @@ preset_lines number name rows = title_line number name ++ (row_line O rows ++ (r
 
 -- the lines of the presets, in order
 abbrev pub all_lines : List Named → List ℕ
-all_lines [] = []
-all_lines (p ∷ ps) = preset_lines p.number p.name p.rows ++ all_lines ps
+all_lines ps = flat_map (λ p. preset_lines p.number p.name p.rows) ps
 
 -- the entry that a refusal names, if it names one, up to the end of the line
 abbrev pub entry_word : Option ℕ → List ℕ
@@ -54,17 +55,17 @@ abbrev pub refusal_line : Refusal → List ℕ
 refusal_line e = codes "no " ++ (decimal (refusal_number e) ++ (codes " " ++ (refusal_layer e ++ entry_word (refusal_entry e))))
 
 -- how what was written compares with what was read
-abbrev pub verdict : Bool → List ℕ
-verdict true = codes "same"
-verdict false = codes "differs"
+abbrev pub verdict : Verdict → List ℕ
+verdict Same = codes "same"
+verdict Differs = codes "differs"
 
 -- the last line, with the length that was written
-abbrev pub wrote_line : ℕ → Bool → List ℕ
-wrote_line n same = codes "wrote " ++ (decimal n ++ (codes " bytes, " ++ (verdict same ++ line_end)))
+abbrev pub wrote_line : ℕ → Verdict → List ℕ
+wrote_line n v = codes "wrote " ++ (decimal n ++ (codes " bytes, " ++ (verdict v ++ line_end)))
 
 -- what comes after the first line: what was written back is always the same
 abbrev pub outcome : List ℕ → Option Refusal → List ℕ
-outcome b None = all_lines (decoded b) ++ wrote_line (length b) true
+outcome b None = all_lines (decoded b) ++ wrote_line (length b) Same
 outcome b (Some e) = refusal_line e
 
 -- the whole report on some bytes

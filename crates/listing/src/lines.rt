@@ -1,18 +1,11 @@
-ghost use Rattle.std.specs.Prelude.{◌≡◌, ◌++◌, OnOk};
-ghost use Rattle.listing.specs.Report.{letter_of, preset_lines, refusal_line, row_line, spaced, title_line};
+ghost use Rattle.std.specs.Prelude.{◌≡◌, Some};
+ghost use Rattle.listing.specs.Report.{letter_of, preset_lines, refusal_line, row_line, verdict, wrote_line};
 ghost use Rattle.preset.specs.Presets.{three_rows};
 
-use preset::{Preset, PresetNumber, Programme, Refusal};
-use std::alloc::{AllocError, Global};
+use preset::{Preset, Programme, Refusal};
+use std::fmt;
 
-// Puts a text behind what is there.
-pub(crate) fn put(out: &mut Vec<u8>, text: &str) -> Result<(), AllocError>
-    ensures { OnOk result (out.new.items ≡ out.old.items ++ text.now) }
-{
-    out.extend_from_slice(text.as_bytes())
-}
-
-// A programme's letter.
+// A programme's letter. No `Display`: both the trait and the type are of other crates.
 fn letter(programme: Programme) -> &'static str
     ensures { result.now ≡ letter_of programme }
 {
@@ -23,79 +16,95 @@ fn letter(programme: Programme) -> &'static str
     }
 }
 
-// The numbers, a space before each, up to the end of the line.
-fn put_numbers(heap: Global, out: &mut Vec<u8>, numbers: &[u8]) -> Result<(), AllocError>
-    ensures { OnOk result (out.new.items ≡ out.old.items ++ spaced numbers.now) }
-{
-    for n in numbers {
-        let n = *n;
-        let word = format!(in heap; " {n}")?;
-        put(out, word.as_str())?;
-    }
-    put(out, "\n")?;
-    Ok(())
-}
-
-// The line of the row that the programme chooses.
-fn put_row(
-    heap: Global,
-    out: &mut Vec<u8>,
-    preset: &Preset,
+// The line of the row that a programme chooses.
+#[derive(Clone, Copy)]
+struct RowLine<'a> {
+    preset: &'a Preset,
     programme: Programme,
-) -> Result<(), AllocError>
-    ensures { OnOk result (out.new.items ≡ out.old.items ++ row_line programme (three_rows preset.now.rows)) }
-{
-    put(out, letter(programme))?;
-    put_numbers(heap, out, &preset.row(programme).numbers())?;
-    Ok(())
 }
 
-// The line of a preset's number and name.
-fn put_title(
-    heap: Global,
-    out: &mut Vec<u8>,
-    number: PresetNumber,
-    name: &[u8],
-) -> Result<(), AllocError>
-    ensures { OnOk result (out.new.items ≡ out.old.items ++ title_line number.value name.now) }
-{
-    let number = number.value;
-    let word = format!(in heap; "preset {number} ")?;
-    put(out, word.as_str())?;
-    out.extend_from_slice(name)?;
-    put(out, "\n")?;
-    Ok(())
+impl fmt::Display for RowLine<'_> {
+    ghost output = { λ l. Some (row_line l.programme (three_rows l.preset.now.rows)) };
+
+    fn fmt<W: fmt::Write>(&self, f: &mut fmt::Formatter<W>) -> fmt::Result {
+        let letter = letter(self.programme);
+        let [top, low, fall, high5, low5, rhigh, rlow] = self.preset.row(self.programme).numbers();
+        writeln!(
+            f,
+            "{letter} {top} {low} {fall} {high5} {low5} {rhigh} {rlow}"
+        )
+    }
 }
 
-// The lines of a preset whose name is at hand.
-pub(crate) fn put_preset(
-    heap: Global,
-    out: &mut Vec<u8>,
-    preset: &Preset,
-    name: &[u8],
-) -> Result<(), AllocError>
-    ensures { OnOk result (out.new.items ≡ out.old.items ++ preset_lines preset.now.number.value name.now (three_rows preset.now.rows)) }
-{
-    put_title(heap, out, preset.number, name)?;
-    put_row(heap, out, preset, Programme::O)?;
-    put_row(heap, out, preset, Programme::M)?;
-    put_row(heap, out, preset, Programme::U)?;
-    Ok(())
+// The lines of a preset with its name.
+#[derive(Clone, Copy)]
+pub(crate) struct PresetLines<'a> {
+    pub(crate) preset: &'a Preset,
+    pub(crate) name: &'a str,
+}
+
+impl fmt::Display for PresetLines<'_> {
+    ghost output = { λ l. Some (preset_lines l.preset.now.number.value l.name.now (three_rows l.preset.now.rows)) };
+
+    fn fmt<W: fmt::Write>(&self, f: &mut fmt::Formatter<W>) -> fmt::Result {
+        let number = self.preset.number.value;
+        let name = self.name;
+        writeln!(f, "preset {number} {name}")?;
+        let preset = self.preset;
+        let row = |programme| RowLine { preset, programme };
+        let (o, m, u) = (row(Programme::O), row(Programme::M), row(Programme::U));
+        write!(f, "{o}{m}{u}")
+    }
 }
 
 // The line of a refusal.
-pub(crate) fn put_refusal(
-    heap: Global,
-    out: &mut Vec<u8>,
-    refusal: Refusal,
-) -> Result<(), AllocError>
-    ensures { OnOk result (out.new.items ≡ out.old.items ++ refusal_line refusal) }
-{
-    let number = refusal.number();
-    let layer = refusal.layer();
-    let line = match refusal.entry() {
-        Some(entry) => format!(in heap; "no {number} {layer} {entry}\n")?,
-        None => format!(in heap; "no {number} {layer}\n")?,
-    };
-    put(out, line.as_str())
+#[derive(Clone, Copy)]
+pub(crate) struct RefusalLine(pub(crate) Refusal);
+
+impl fmt::Display for RefusalLine {
+    ghost output = { λ l. Some (refusal_line l.0) };
+
+    fn fmt<W: fmt::Write>(&self, f: &mut fmt::Formatter<W>) -> fmt::Result {
+        let number = self.0.number();
+        let layer = self.0.layer();
+        match self.0.entry() {
+            Some(entry) => writeln!(f, "no {number} {layer} {entry}"),
+            None => writeln!(f, "no {number} {layer}"),
+        }
+    }
+}
+
+// How what was written compares with what was read.
+#[derive(Clone, Copy, Debug, PartialEq, Eq)]
+pub(crate) enum Verdict {
+    Same,
+    Differs,
+}
+
+impl fmt::Display for Verdict {
+    ghost output = { λ v. Some (verdict v) };
+
+    fn fmt<W: fmt::Write>(&self, f: &mut fmt::Formatter<W>) -> fmt::Result {
+        f.write_str(match self {
+            Verdict::Same => "same",
+            Verdict::Differs => "differs",
+        })
+    }
+}
+
+// What came of writing a file back.
+#[derive(Clone, Copy, Debug, PartialEq, Eq)]
+pub(crate) struct WrittenBack {
+    pub(crate) length: usize,
+    pub(crate) verdict: Verdict,
+}
+
+impl fmt::Display for WrittenBack {
+    ghost output = { λ w. Some (wrote_line w.length w.verdict) };
+
+    fn fmt<W: fmt::Write>(&self, f: &mut fmt::Formatter<W>) -> fmt::Result {
+        let length = self.length;
+        let verdict = self.verdict;
+        writeln!(f, "wrote {length} bytes, {verdict}")
+    }
 }

@@ -1,114 +1,80 @@
-ghost use Rattle.std.specs.Prelude.{◌≡◌, ◌≤◌, true, ◌++◌, length, IfOk, None, Ok, OnOk};
-ghost use Rattle.listing.specs.Report.{all_lines, outcome, report_of, verdict, wrote_line};
-ghost use Rattle.preset.specs.Calls.{Accepted, Lists};
-ghost use Rattle.preset.specs.Presets.{all_named, AllLieIn};
+ghost use Rattle.std.specs.Prelude.{◌≡◌, true, ◌++◌, length, string_bytes, IfOk, OnOk};
+ghost use Rattle.listing.specs.Report.{all_lines, outcome, report_of};
+ghost use Rattle.listing.specs.declared.lines.Verdict.TheVariants.{Same};
+ghost use Rattle.preset.specs.Calls.{Lists};
+ghost use Rattle.preset.specs.Entries.{first_refusal};
+ghost use Rattle.preset.specs.Names.{is_name};
+ghost use Rattle.preset.specs.Presets.{all_named, part, AllLieIn, LiesIn};
+ghost use Rattle.preset.specs.Valid.{AllSound};
 
-use crate::lines::{put, put_preset, put_refusal};
-use preset::{Preset, PresetFile, Refusal, read, write};
+use crate::lines::{PresetLines, RefusalLine, Verdict, WrittenBack};
+use preset::{Preset, PresetFile, read, write};
 use std::alloc::{AllocError, Global};
+use std::str;
 
-// What came of writing a file back.
-#[derive(Clone, Copy)]
-struct WrittenBack {
-    length: usize,
-    same: bool,
+// A preset's name, which is text since each of its bytes is printable.
+#[tactic(auto, using(crate::proofs::Names::name_is_text))]
+fn name_of<'a>(file: &PresetFile<'a>, preset: &Preset) -> &'a str
+    requires in_file { LiesIn file.now.bytes.now preset.now.name }
+    requires printable { is_name (part file.now.bytes.now preset.now.name) ≡ true }
+    ensures { result.now ≡ part file.now.bytes.now preset.now.name }
+{
+    let name = file.name(preset).unwrap();
+    str::from_utf8(name).unwrap()
 }
 
 // The lines of all presets of a file.
-fn put_presets(
-    heap: Global,
-    out: &mut Vec<u8>,
-    file: &PresetFile,
-    presets: &[Preset],
-) -> Result<(), AllocError>
-    requires { AllLieIn file.now.bytes.now presets.now }
-    ensures { OnOk result (out.new.items ≡ out.old.items ++ all_lines (all_named file.now.bytes.now presets.now)) }
+fn put_presets(out: &mut String, file: &PresetFile, presets: &[Preset]) -> Result<(), AllocError>
+    requires in_file { AllLieIn file.now.bytes.now presets.now }
+    requires sound { AllSound (all_named file.now.bytes.now presets.now) }
+    ensures { OnOk result (string_bytes out.new ≡ string_bytes out.old ++ all_lines (all_named file.now.bytes.now presets.now)) }
 {
     for preset in presets {
-        match file.name(preset) {
-            Some(name) => put_preset(heap, out, preset, name)?,
-            None => unreachable(),
-        }
+        let name = name_of(file, preset);
+        write!(out, "{}", PresetLines { preset, name })?;
     }
     Ok(())
 }
 
-fn verdict_word(same: bool) -> &'static str
-    ensures { result.now ≡ verdict same }
-{
-    if same { "same" } else { "differs" }
-}
-
-// Writes the presets of a file with the file as their text, and compares.
-fn written_back(presets: &[Preset], bytes: &[u8], buffer: &mut [u8]) -> Result<WrittenBack, Refusal>
-    requires { (Lists bytes.now presets.now) × (length bytes.now ≤ length buffer.old) }
-    ensures { result ≡ Ok (record { length = length bytes.now; same = true }) }
-{
-    match write(presets, bytes, buffer) {
-        Ok(length) => Ok(WrittenBack {
-            length,
-            same: &buffer[0..length] == bytes,
-        }),
-        Err(refusal) => Err(refusal),
-    }
-}
-
-// The line on what came of writing back.
-fn put_verdict(heap: Global, out: &mut Vec<u8>, back: WrittenBack) -> Result<(), AllocError>
-    ensures { OnOk result (out.new.items ≡ out.old.items ++ wrote_line back.length back.same) }
-{
-    let length = back.length;
-    let verdict = verdict_word(back.same);
-    let line = format!(in heap; "wrote {length} bytes, {verdict}\n")?;
-    put(out, line.as_str())?;
-    Ok(())
-}
-
-// The line on writing the presets of a file back.
-fn put_written(
-    heap: Global,
-    out: &mut Vec<u8>,
-    bytes: &[u8],
-    presets: &[Preset],
-) -> Result<(), AllocError>
+// Writes the presets of a file with the file as their text, which nothing refuses, and compares.
+fn written_back(heap: Global, presets: &[Preset], bytes: &[u8]) -> Result<WrittenBack, AllocError>
     requires { Lists bytes.now presets.now }
-    ensures { OnOk result (out.new.items ≡ out.old.items ++ wrote_line (length bytes.now) true) }
+    ensures length { IfOk result (λ back. back.length ≡ length bytes.now) }
+    ensures same { IfOk result (λ back. back.verdict ≡ Same) }
 {
-    let mut buffer = vec![in heap; 0u8; bytes.len()]?;
-    match written_back(presets, bytes, buffer.as_mut_slice()) {
-        Ok(back) => put_verdict(heap, out, back)?,
-        Err(refusal) => put_refusal(heap, out, refusal)?,
-    }
-    Ok(())
+    let mut memory = vec![in heap; 0u8; bytes.len()]?;
+    let buffer = memory.as_mut_slice();
+    let length = write(presets, bytes, buffer).unwrap();
+    let verdict = if &buffer[..length] == bytes {
+        Verdict::Same
+    } else {
+        Verdict::Differs
+    };
+    Ok(WrittenBack { length, verdict })
 }
 
-// The lines on a file that was read.
-fn put_file(
-    heap: Global,
-    out: &mut Vec<u8>,
-    bytes: &[u8],
-    file: &PresetFile,
-) -> Result<(), AllocError>
-    requires { (Accepted file.now) × (file.now.bytes.now ≡ bytes.now) }
-    ensures { OnOk result (out.new.items ≡ out.old.items ++ outcome bytes.now None) }
+// What comes after the first line: the presets and what came of writing them back, or the refusal. It alone needs the text and memory beside it.
+fn put_outcome(heap: Global, out: &mut String, bytes: &[u8]) -> Result<(), AllocError>
+    ensures { OnOk result (string_bytes out.new ≡ string_bytes out.old ++ outcome bytes.now (first_refusal bytes.now)) }
 {
-    let presets = file.presets();
-    put_presets(heap, out, file, presets.as_slice())?;
-    put_written(heap, out, bytes, presets.as_slice())?;
-    Ok(())
+    match read(bytes) {
+        Ok(file) => {
+            let presets = file.presets();
+            put_presets(out, &file, presets.as_slice())?;
+            let back = written_back(heap, presets.as_slice(), bytes)?;
+            write!(out, "{back}")
+        }
+        Err(refusal) => write!(out, "{}", RefusalLine(refusal)),
+    }
 }
 
 // The report on the bytes of a preset file, from beginning to end.
 pub fn report(heap: Global, bytes: &[u8]) -> Result<Vec<u8>, AllocError>
     ensures { IfOk result (λ out. out.items ≡ report_of bytes.now) }
 {
-    let mut out = Vec::new(heap);
+    let mut out = String::new(heap);
     let length = bytes.len();
-    let line = format!(in heap; "read {length} bytes\n")?;
-    put(&mut out, line.as_str())?;
-    match read(bytes) {
-        Ok(file) => put_file(heap, &mut out, bytes, &file)?,
-        Err(refusal) => put_refusal(heap, &mut out, refusal)?,
-    }
-    Ok(out)
+    writeln!(out, "read {length} bytes")?;
+    put_outcome(heap, &mut out, bytes)?;
+    Ok(out.into_bytes())
 }

@@ -1,4 +1,4 @@
-// What an odometer is made with and what it reads, with their units.
+// What an odometer is made with and what it reads, each a type of its own with its unit, so that none is taken for another.
 
 // How far a wheel rolls in one turn.
 #[derive(Clone, Copy, PartialEq, Eq, PartialOrd, Ord, Debug)]

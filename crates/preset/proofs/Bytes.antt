@@ -1,6 +1,6 @@
 -- Lists of bytes, and lists of a known length, element by element.
-use Rattle.std.proofs.Common.{◌≡◌, ℕ, zero, suc, ◌+◌, ◌<◌, ◌≤◌, List, [], ◌∷◌, length, get_or, drop, refl, ap, ◌∙◌, arith}
-use Rattle.std.proofs.lemmas.List.{drop_more, nil_from_length, length-drop, get_or-drop}
+use Rattle.std.proofs.Common.{◌≡◌, ℕ, zero, suc, ◌+◌, ◌<◌, ◌≤◌, List, ◌∷◌, length, get_or, drop, refl, ap, ◌∙◌, arith}
+use Rattle.std.proofs.lemmas.List.{drop_more, get_or-drop}
 
 -- each is a byte
 abbrev pub Bytes : List ℕ → Type 0
@@ -17,9 +17,3 @@ spelled (suc n) k xs = get_or xs k 0 ∷ spelled n (k + 1) xs
 pub spells : (n k : ℕ) (xs : List ℕ) → n + k ≤ length xs → drop k xs ≡ spelled n k xs
 spells zero k xs h = refl
 spells (suc n) k xs h = drop_more xs k 0 (omega arith) ∙ ap (λ t. get_or xs k 0 ∷ t) (spells n (k + 1) xs (omega arith))
-
--- seven elements are the whole list
-pub seven_is : (xs : List ℕ) → length xs ≡ 7 → xs ≡ get_or xs 0 0 ∷ get_or xs 1 0 ∷ get_or xs 2 0 ∷ get_or xs 3 0 ∷ get_or xs 4 0 ∷ get_or xs 5 0 ∷ get_or xs 6 0 ∷ []
-seven_is xs h =
-    let e = nil_from_length (drop 7 xs) (omega (arith, length-drop 7 xs)) in
-    spells 7 0 xs (omega arith) ∙ ap (λ t. get_or xs 0 0 ∷ get_or xs 1 0 ∷ get_or xs 2 0 ∷ get_or xs 3 0 ∷ get_or xs 4 0 ∷ get_or xs 5 0 ∷ get_or xs 6 0 ∷ t) e

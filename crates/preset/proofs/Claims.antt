@@ -1,16 +1,26 @@
 -- What is wrong with a claim, test by test.
-use Rattle.std.proofs.Common.{◌≡◌, ℕ, ◌+◌, ◌<◌, ◌≤◌, Bool, true, false, ◌&&◌, eqb, ltb, leb, List, [], ◌∷◌, map, length, Some, None, Option, sym, refl, ap, ◌∙◌, subst, arith}
+use Rattle.std.proofs.Common.{◌≡◌, ℕ, ◌+◌, ◌<◌, ◌≤◌, Bool, true, false, ◌&&◌, eqb, ltb, leb, List, [], ◌∷◌, map, length, Ok, Err, Some, None, Option, sym, refl, ap, ◌∙◌, subst, arith}
 use Rattle.std.proofs.lemmas.Bool.{and_from, and_parts, lt-ltb, le-leb, leb-true, ltb-true, eqb-true}
+use Rattle.std.proofs.lemmas.List.Elements.{All-cons, All-head, All-nil, All-tail}
 use Rattle.preset.specs.Rule.{ThreeRows, row_keeps, rows_keep}
 use Rattle.preset.specs.Names.{is_name, printable}
 use Rattle.preset.specs.Refusals.{row_refusal}
 use Rattle.preset.specs.Width.{offset_of, size_of}
 use Rattle.preset.specs.Format.{Named}
 use Rattle.preset.specs.Entries.{Claim, unless, fault, faults, row_fault, rows_fault, name_fits, plain, claim, count_fits}
-use Rattle.preset.specs.Valid.{Rising, AllSound, Valid}
-use Rattle.preset.specs.Steps.{Passes, Fails}
+use Rattle.preset.specs.Valid.{Rising, AllSound, Sound, Valid}
+use Rattle.preset.specs.Steps.{Passes, Fails, unless_refused}
 use Rattle.preset.specs.declared.refusal.Refusal.{Refusal}
 use Rattle.preset.specs.declared.refusal.Refusal.TheVariants.{Number, Name}
+
+-- what a check that answers a first refusal says of it
+pub refused : (o : Option Refusal) (e : Refusal) → unless_refused o ≡ Err e → o ≡ Some e
+refused None e h = absurd (let z : ◌≡◌ {A = ℕ} 0 1 = cc in omega arith)
+refused (Some r) e h = cc
+
+pub not_refused : (o : Option Refusal) → unless_refused o ≡ Ok tt → o ≡ None
+not_refused None h = refl
+not_refused (Some r) h = absurd (let z : ◌≡◌ {A = ℕ} 0 1 = cc in omega arith)
 
 -- an answer cannot be both
 pub clash : {o : Option Refusal} {e : Refusal} → o ≡ Some e → o ≡ None → ⊥
@@ -112,19 +122,20 @@ plain_whole (p ∷ ps) = ap (λ t. p ∷ t) (plain_whole ps)
 pub fine_from : (ps : List Named) (k last : ℕ) → Rising last ps → AllSound ps → faults k last (map whole ps) None ≡ None
 fine_from [] k last r s = refl
 fine_from (p ∷ ps) k last r s =
+    let here = All-head Sound p ps s in
     meets_passes (k + 1) last (whole p) (record {
       rising = r.0;
-      name = record { placed = refl; name = s.0.name };
-      rows = s.0.rows;
+      name = record { placed = refl; name = here.name };
+      rows = here.rows;
     }) _ ∙
-    fine_from ps (k + 1) p.number r.1 s.1
+    fine_from ps (k + 1) p.number r.1 (All-tail Sound p ps s)
 
 pub fine_to : (ps : List Named) (k last : ℕ) → faults k last (map whole ps) None ≡ None → Rising last ps × AllSound ps
-fine_to [] k last h = (tt, tt)
+fine_to [] k last h = (tt, All-nil Sound)
 fine_to (p ∷ ps) k last h =
     let m = meets (k + 1) last (whole p) _ h in
     let r = fine_to ps (k + 1) p.number m.1 in
-    ((m.0.rising, r.0), (record { name = m.0.name.name; rows = m.0.rows }, r.1))
+    ((m.0.rising, r.0), All-cons Sound p ps (record { name = m.0.name.name; rows = m.0.rows }) r.1)
 
 pub valid_from : (ps : List Named) → 1 ≤ length ps → length ps ≤ 32 → faults 0 0 (map whole ps) None ≡ None → Valid ps
 valid_from ps some few h = let v = fine_to ps 0 0 h in record { some = some; few = few; rising = v.0; sound = v.1 }

@@ -1,15 +1,18 @@
 -- What the writer's proofs share.
-use Rattle.std.proofs.Common.{◌≡◌, ℕ, ◌+◌, ◌-◌, ◌<◌, ◌≤◌, List, [], ◌∷◌, ◌++◌, map, length, get_or, take, drop, Some, None, Option, sym, ap, ◌∙◌, subst, arith}
+use Rattle.std.proofs.Common.{◌≡◌, ℕ, ◌+◌, ◌-◌, ◌<◌, ◌≤◌, List, [], ◌∷◌, ◌++◌, All, map, length, get_or, take, drop, None, Option, sym, ap, ◌∙◌, subst, arith}
 use Rattle.std.proofs.lemmas.List.{drop-drop, append_assoc, length-append, drop_more, length-map, append-nil, take-append-drop, take_at}
+use Rattle.std.proofs.lemmas.List.Elements.{All-cons, All-same}
 use Rattle.preset.specs.Width.{number_bytes, two_bytes}
 use Rattle.preset.specs.Format.{rows_bytes, entries, names, base, total, header, encoded}
 use Rattle.preset.specs.Entries.{faults}
 use Rattle.preset.specs.Valid.{Valid}
 use Rattle.preset.specs.Presets.{named, all_named, claimed, part, three_rows}
-use Rattle.preset.specs.Steps.{Passes, Fails, Lies, inside}
+use Rattle.preset.specs.Steps.{Passes, Lies}
 use Rattle.preset.specs.declared.preset.Preset.{Preset}
 use Rattle.preset.specs.declared.refusal.Refusal.{Refusal}
-use Rattle.preset.proofs.Claims.{valid_from}
+use Rattle.preset.specs.Drafts.{Drafted}
+use Rattle.preset.specs.declared.draft.Draft.{Draft}
+use Rattle.preset.proofs.Claims.{count_parts, valid_from}
 use Rattle.preset.proofs.Trips.{Back, length-encoded, file_back}
 use Rattle.preset.proofs.Walks.{name_long, claimed_whole}
 
@@ -42,11 +45,11 @@ module _ (text : List ℕ) (ps : List Preset) (i : ℕ) (x : Preset) (h : i < le
   pub names_more : Lies text x → length (names (all_named text (drop i ps))) ≡ x.name.length + length (names (all_named text (drop (i + 1) ps)))
   names_more f = rw front_of (length-append (part text x.name) (names (all_named text (drop (i + 1) ps))) ∙ rw (name_long text x f.1))
 
-  pub inside_add : Lies text x → inside text (drop (i + 1) ps) → inside text (drop i ps)
-  inside_add f r = subst (inside text) (sym front_of) (f, r)
+  pub lies_add : Lies text x → All (Lies text) (drop (i + 1) ps) → All (Lies text) (drop i ps)
+  lies_add f r = All-same (Lies text) _ _ front_of (All-cons (Lies text) x _ f r)
 
-  pub inside_here : inside text (drop i ps) → Lies text x × inside text (drop (i + 1) ps)
-  inside_here r = subst (inside text) front_of r
+  pub lies_here : All (Lies text) ps → Lies text x
+  lies_here all = subst (Lies text) (sym is) (all i x h)
 
   pub entries_more : (at : ℕ) → Lies text x →
       entries at (all_named text (drop i ps)) ≡
@@ -58,13 +61,9 @@ module _ (text : List ℕ) (ps : List Preset) (i : ℕ) (x : Preset) (h : i < le
   pub names_split : names (all_named text (drop i ps)) ≡ part text x.name ++ names (all_named text (drop (i + 1) ps))
   names_split = ap (λ ys. names (all_named text ys)) front_of
 
-  module _ (k last : ℕ) (same : k ≡ i) where
-    pub faults_none_here : Passes (k + 1) last (claimed text x) → (o : Option Refusal) →
-        faults i last (map (claimed text) (drop i ps)) o ≡ faults (i + 1) x.number.value (map (claimed text) (drop (i + 1) ps)) o
-    faults_none_here f o = ap (λ ys. faults i last (map (claimed text) ys) o) front_of ∙ subst (λ n. Passes (n + 1) last (claimed text x)) same f _
-
-    pub faults_here : (e : Refusal) → Fails (k + 1) last (claimed text x) e → (o : Option Refusal) → faults i last (map (claimed text) (drop i ps)) o ≡ Some e
-    faults_here e f o = ap (λ ys. faults i last (map (claimed text) ys) o) front_of ∙ subst (λ n. Fails (n + 1) last (claimed text x) e) same f _
+  pub faults_on : (last : ℕ) → Passes (i + 1) last (claimed text x) → (o : Option Refusal) →
+      faults i last (map (claimed text) (drop i ps)) o ≡ faults (i + 1) x.number.value (map (claimed text) (drop (i + 1) ps)) o
+  faults_on last f o = ap (λ ys. faults i last (map (claimed text) ys) o) front_of ∙ f _
 
 -- a part more is done, and a part less is left
 pub step : (t part e t' e' : List ℕ) → t' ≡ t ++ part → e ≡ part ++ e' → t' ++ e' ≡ t ++ e
@@ -89,7 +88,7 @@ pub total_named : (text : List ℕ) (ps : List Preset) → total (all_named text
 total_named text ps = ap (λ n. base n + length (names (all_named text ps))) (length-map ps (named text))
 
 -- what was written is read back
-pub read_back : (text : List ℕ) (ps : List Preset) (n : ℕ) (before after : List ℕ) → 1 ≤ length ps → length ps ≤ 32 → inside text ps →
+pub read_back : (text : List ℕ) (ps : List Preset) (n : ℕ) (before after : List ℕ) → 1 ≤ length ps → length ps ≤ 32 → All (Lies text) ps →
     ((o : Option Refusal) → faults 0 0 (map (claimed text) ps) o ≡ o) → n ≡ total (all_named text ps) →
     after ≡ encoded (all_named text ps) ++ drop n before → Back (take n after) (all_named text ps)
 read_back text ps n before after some few i clear e w =
@@ -98,3 +97,14 @@ read_back text ps n before after some few i clear e w =
     let v : Valid N = valid_from N (omega arith) (omega arith) (ap (λ cs. faults 0 0 cs None) (claimed_whole text ps i) ∙ clear None) in
     let same = ap (take n) w ∙ take_at (encoded N) (drop n before) n (length-encoded N v ∙ sym e) in
     file_back (take n after) N (record { valid = v; bytes = sym same })
+
+-- what a draft says of its own fields, it says of what it was made of
+pub drafted_back : (text : List ℕ) (ps : List Preset) (d : Draft) (before after : List ℕ) → Drafted ps text d →
+    after ≡ encoded (all_named d.text.now d.presets.now) ++ drop d.extent before → Back (take d.extent after) (all_named text ps)
+drafted_back text ps d before after k w =
+    let n = count_parts (length ps) k.counted in
+    let long = ap length k.presets_are in
+    let clear : (o : Option Refusal) → faults 0 0 (map (claimed d.text.now) d.presets.now) o ≡ o = λ o.
+    ap (λ xs. faults 0 0 (map (claimed d.text.now) xs) o) k.presets_are ∙ (ap (λ x. faults 0 0 (map (claimed x) ps) o) k.text_is ∙ k.passes o) in
+    let same = ap (λ xs. all_named d.text.now xs) k.presets_are ∙ ap (λ x. all_named x ps) k.text_is in
+    subst (Back (take d.extent after)) same (read_back d.text.now d.presets.now d.extent before after (omega arith) (omega arith) d.within clear d.measured w)

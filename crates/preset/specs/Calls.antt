@@ -21,13 +21,9 @@ Makes top low fall high5 low5 rhigh rlow (Ok p) =
 Makes top low fall high5 low5 rhigh rlow (Err e) =
     (row_rule top low fall high5 low5 rhigh rlow ≡ false) × (e ≡ row_refusal 0 (top ∷ low ∷ fall ∷ high5 ∷ low5 ∷ rhigh ∷ rlow ∷ []))
 
--- a file whose bytes are not refused: `read` makes no other
-abbrev pub Accepted : PresetFile → Type 0
-Accepted f = first_refusal f.bytes.now ≡ None
-
 -- bytes that no refusal names are read, and others are answered with the first refusal
 abbrev pub Reads : List ℕ → Result PresetFile Refusal → Type 0
-Reads b (Ok f) = (first_refusal b ≡ None) × (f.bytes.now ≡ b) × Accepted f
+Reads b (Ok f) = (first_refusal b ≡ None) × (f.bytes.now ≡ b)
 Reads b (Err e) = first_refusal b ≡ Some e
 
 -- bytes are read exactly where they are the file of a valid list, and that one list is what they hold

@@ -1,5 +1,6 @@
 -- What is wrong with the entries of a file, or with a list of presets that is to be written: the first refusal, in order.
-use Rattle.std.specs.Prelude.{ℕ, zero, suc, ◌+◌, Bool, true, false, cond, ◌&&◌, List, [], ◌∷◌, map, length, take, drop, Some, None, Option, ◌==◌, nat_le, nat_lt, slice_index}
+use Rattle.std.specs.Prelude.{ℕ, zero, suc, ◌+◌, Bool, true, false, ◌&&◌, List, [], ◌∷◌, map, length, take, drop, Some, None, Option, ◌==◌, nat_le, nat_lt, slice_index}
+use Rattle.std.specs.List.{filter}
 use Rattle.preset.specs.Rule.{ThreeRows, row_keeps}
 use Rattle.preset.specs.Names.{is_name}
 use Rattle.preset.specs.Refusals.{row_refusal}
@@ -98,5 +99,4 @@ first_refusal b =
 
 -- the presets of that number
 abbrev pub numbered : ℕ → List Held → List Held
-numbered n [] = []
-numbered n (h ∷ hs) = cond (h.preset.number == n) (h ∷ numbered n hs) (numbered n hs)
+numbered n hs = filter (λ h. h.preset.number == n) hs

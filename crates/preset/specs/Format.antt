@@ -1,5 +1,5 @@
 -- The bytes of a file of named presets.
-use Rattle.std.specs.Prelude.{ℕ, ◌+◌, ◌*◌, List, [], ◌∷◌, ◌++◌, length}
+use Rattle.std.specs.Prelude.{ℕ, ◌+◌, ◌*◌, List, [], ◌∷◌, ◌++◌, flat_map, length}
 use Rattle.preset.specs.Rule.{ThreeRows}
 use Rattle.preset.specs.Width.{version, number_bytes, entry_size, two_bytes}
 
@@ -24,8 +24,7 @@ entries at (p ∷ ps) = entry at p ++ entries (at + length p.name) ps
 
 -- the names, back to back
 abbrev pub names : List Named → List ℕ
-names [] = []
-names (p ∷ ps) = p.name ++ names ps
+names ps = flat_map (λ p. p.name) ps
 
 -- the header has six bytes, and the entries begin behind it
 abbrev pub header_size : ℕ

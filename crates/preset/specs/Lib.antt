@@ -8,4 +8,6 @@ pub mod Valid
 pub mod Standard
 pub mod Presets
 pub mod Steps
+pub mod Walk
+pub mod Drafts
 pub mod Calls

@@ -1,5 +1,5 @@
 -- The code's presets, with their names out of a text.
-use Rattle.std.specs.Prelude.{ℕ, ◌+◌, ◌≤◌, List, [], ◌∷◌, map, length, take, drop, None, Option, nat_le}
+use Rattle.std.specs.Prelude.{ℕ, ◌+◌, ◌≤◌, All, List, map, length, take, drop, None, Option, nat_le}
 use Rattle.preset.specs.Rule.{ThreeRows, in_order}
 use Rattle.preset.specs.Format.{Named, Held, total}
 use Rattle.preset.specs.Entries.{Claim, unless, faults, count_fits}
@@ -62,8 +62,7 @@ write_refusal ps text room =
 
 -- each name lies in the text
 abbrev pub AllLieIn : List ℕ → List Preset → Type 0
-AllLieIn text [] = Unit {0}
-AllLieIn text (p ∷ ps) = LiesIn text p.name × AllLieIn text ps
+AllLieIn text ps = All (λ p. LiesIn text p.name) ps
 
 -- the presets that a list holds
 abbrev pub listed : PresetList → List Preset

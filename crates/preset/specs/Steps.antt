@@ -1,15 +1,19 @@
 -- What the functions behind the calls answer.
-use Rattle.std.specs.Prelude.{◌≡◌, ℕ, ◌<◌, ◌≤◌, true, false, List, [], ◌∷◌, map, length, Some, None, Ok, Err, Option, Result}
+use Rattle.std.specs.Prelude.{◌≡◌, ℕ, ◌≤◌, true, false, List, Some, None, Ok, Err, Option, Result}
 use Rattle.preset.specs.Rule.{row_keeps, rows_keep}
 use Rattle.preset.specs.Refusals.{row_refusal}
 use Rattle.preset.specs.Width.{number_of, size_of, rows_of}
-use Rattle.preset.specs.Format.{total}
-use Rattle.preset.specs.Entries.{Claim, claim, fault, faults, rows_fault}
-use Rattle.preset.specs.Presets.{row_numbers, three_rows, claimed, all_named, LiesIn}
+use Rattle.preset.specs.Entries.{Claim, fault, rows_fault}
+use Rattle.preset.specs.Presets.{row_numbers, three_rows, claimed, LiesIn}
 use Rattle.preset.specs.declared.row.Row.{Row}
 use Rattle.preset.specs.declared.preset.Preset.{Preset}
 use Rattle.preset.specs.declared.preset.Rows.{Rows as PresetRows}
 use Rattle.preset.specs.declared.refusal.Refusal.{Refusal}
+
+-- a first refusal, as a call answers it
+abbrev pub unless_refused : Option Refusal → Result (Unit {0}) Refusal
+unless_refused None = Ok tt
+unless_refused (Some e) = Err e
 
 -- nothing is wrong with the entry k, whatever comes next
 abbrev pub Passes : (k last : ℕ) → Claim → Type 0
@@ -36,29 +40,11 @@ abbrev pub ReadsRows : ℕ → List ℕ → Result PresetRows Refusal → Type 0
 ReadsRows k es (Ok r) = (rows_keep (rows_of es) ≡ true) × (three_rows r ≡ rows_of es)
 ReadsRows k es (Err e) = (rows_keep (rows_of es) ≡ false) × ((o : Option Refusal) → rows_fault k (rows_of es) o ≡ Some e)
 
--- the entry k at the front of `es`, with its name at the front of `ns`, is refused or its name lies there
-abbrev pub Checks : (k last at : ℕ) → (es ns : List ℕ) → Option Refusal → Type 0
-Checks k last at es ns None = Passes k last (claim at es ns) × (size_of es ≤ length ns)
-Checks k last at es ns (Some e) = Fails k last (claim at es ns) e
-
 -- a preset's name has at most 24 bytes and lies in the text
 abbrev pub Lies : List ℕ → Preset → Type 0
 Lies text p = (p.name.length ≤ 24) × LiesIn text p.name
 
--- the same of each preset of a list
-abbrev pub inside : List ℕ → List Preset → Type 0
-inside text [] = Unit {0}
-inside text (p ∷ ps) = Lies text p × inside text ps
-
 -- the preset k that is to be written is refused or its name lies in the text
-abbrev pub Admits : (k last : ℕ) → List ℕ → Preset → Option Refusal → Type 0
-Admits k last text p None =
-    Passes k last (claimed text p) × Lies text p
-Admits k last text p (Some e) = Fails k last (claimed text p) e
-
--- the presets are refused, or so long is their file
-abbrev pub Measures : List Preset → List ℕ → Result ℕ Refusal → Type 0
-Measures ps text (Ok n) =
-    (n ≡ total (all_named text ps)) × (n < 65536) × inside text ps ×
-    ((o : Option Refusal) → faults 0 0 (map (claimed text) ps) o ≡ o)
-Measures ps text (Err e) = (o : Option Refusal) → faults 0 0 (map (claimed text) ps) o ≡ Some e
+abbrev pub Admits : (k last : ℕ) → List ℕ → Preset → Result (Unit {0}) Refusal → Type 0
+Admits k last text p (Ok u) = Passes k last (claimed text p) × Lies text p
+Admits k last text p (Err e) = Fails k last (claimed text p) e

@@ -1,5 +1,5 @@
 -- The lists of presets that have a file, and the file that each has.
-use Rattle.std.specs.Prelude.{◌≡◌, ℕ, ◌<◌, ◌≤◌, true, List, [], ◌∷◌, length}
+use Rattle.std.specs.Prelude.{◌≡◌, ℕ, All, ◌<◌, ◌≤◌, true, List, [], ◌∷◌, length}
 use Rattle.preset.specs.Names.{is_name}
 use Rattle.preset.specs.Rule.{rows_keep}
 use Rattle.preset.specs.Format.{Named, encoded}
@@ -11,8 +11,7 @@ pub record Sound (p : Named) : Type 0 where
 
 -- each preset of a list is sound
 abbrev pub AllSound : List Named → Type 0
-AllSound [] = Unit {0}
-AllSound (p ∷ ps) = Sound p × AllSound ps
+AllSound ps = All Sound ps
 
 -- the numbers rise, each above the one before and the first above `last`
 abbrev pub Rising : ℕ → List Named → Type 0

@@ -1,87 +1,102 @@
-ghost use Rattle.std.specs.Prelude.{◌≡◌, ◌≤◌, true, length};
-ghost use Rattle.preset.specs.Entries.{claim, name_fits};
-ghost use Rattle.preset.specs.Rule.{rows_keep};
-ghost use Rattle.preset.specs.Steps.{Checks, ReadsRows, Says};
-ghost use Rattle.preset.specs.Width.{entry_size, rows_of, size_of};
+ghost use Rattle.std.specs.Prelude.{◌≤◌, length};
+ghost use Rattle.preset.specs.Width.{entry_size};
 
 use crate::layout::{NUMBER_WIDTH, from_two_bytes};
 use crate::name::is_name;
 use crate::{Place, Preset, PresetNumber, Refusal, Row, Rows};
 
-// The rows of the entry k at the front of `es`, or the refusal of the first that breaks its rule.
-fn rows(es: &[u8], k: u8) -> Result<Rows, Refusal>
-    requires { entry_size ≤ length es.now }
-    ensures { ReadsRows k es.now result }
-{
-    let o = Row::read(&es[NUMBER_WIDTH + 3..NUMBER_WIDTH + 10], k)?;
-    let m = Row::read(&es[NUMBER_WIDTH + 10..NUMBER_WIDTH + 17], k)?;
-    let u = Row::read(&es[NUMBER_WIDTH + 17..NUMBER_WIDTH + 24], k)?;
-    Ok(Rows { o, m, u })
+// An entry of a file that is read, counted from 1.
+#[derive(Clone, Copy)]
+pub(crate) struct Entry<'a> {
+    pub(crate) ordinal: u8,
+    // the bytes from the entry on, and those from its name on
+    pub(crate) bytes: &'a [u8],
+    pub(crate) names: &'a [u8],
+    // where the name has to be
+    pub(crate) name_at: usize,
+    ghost whole: { entry_size ≤ length bytes.now },
 }
 
-// How long the name of the entry at the front of `es` is.
-pub(crate) fn name_length(es: &[u8]) -> usize
-    requires { entry_size ≤ length es.now }
-    ensures { result ≡ size_of es.now }
-{
-    es[NUMBER_WIDTH + 2] as usize
-}
+impl Entry<'_> {
+    ghost use Rattle.std.specs.Prelude.{◌≡◌, ◌+◌, ◌<◌, true, drop, take};
+    ghost use Rattle.preset.specs.Entries.{name_fits};
+    ghost use Rattle.preset.specs.Rule.{rows_keep};
+    ghost use Rattle.preset.specs.Steps.{ReadsRows, Says};
+    ghost use Rattle.preset.specs.Walk.{Checks, claimed_by};
+    ghost use Rattle.preset.specs.Width.{number_of, number_width, rows_of, size_of};
 
-// Whether the entry at the front of `es` has its name at `at`, where `ns` begins.
-fn is_placed(es: &[u8], ns: &[u8], at: usize) -> bool
-    requires { entry_size ≤ length es.now }
-    ensures { result ≡ (claim at es.now ns.now).placed }
-{
-    from_two_bytes(es[NUMBER_WIDTH], es[NUMBER_WIDTH + 1]) == at && name_length(es) <= ns.len()
-}
-
-// Whether the entry has its name there, and it can be a name.
-fn has_name(es: &[u8], ns: &[u8], at: usize) -> bool
-    requires { entry_size ≤ length es.now }
-    ensures { result ≡ name_fits (claim at es.now ns.now) }
-{
-    let size = name_length(es);
-    is_placed(es, ns, at) && is_name(&ns[0..size])
-}
-
-// What is wrong with the entry k at the front of `es`, whose name has to be at the front of `ns`, which begins at `at`.
-pub(crate) fn entry_fault(
-    es: &[u8],
-    ns: &[u8],
-    k: u8,
-    last: PresetNumber,
-    at: usize,
-) -> Option<Refusal>
-    requires { entry_size ≤ length es.now }
-    ensures { Checks k last.value at es.now ns.now result }
-{
-    if !PresetNumber::read(es).rises_above(last) {
-        return Some(Refusal::Number(k));
+    pub(crate) fn number(&self) -> PresetNumber
+        ensures { result.value ≡ number_of self.now.bytes.now }
+    {
+        PresetNumber::read(self.bytes)
     }
-    if !has_name(es, ns, at) {
-        return Some(Refusal::Name(k));
-    }
-    match rows(es, k) {
-        Ok(_) => None,
-        Err(e) => Some(e),
-    }
-}
 
-// The preset of the entry at the front of `es`, which nothing is wrong with, with its name at `at`.
-pub(crate) fn preset_at(es: &[u8], at: usize) -> Preset
-    requires { (entry_size ≤ length es.now) × (rows_keep (rows_of es.now) ≡ true) }
-    ensures { Says at es.now result }
-{
-    let name = Place {
-        offset: at,
-        length: name_length(es),
-    };
-    match rows(es, 0) {
-        Ok(rows) => Preset {
-            number: PresetNumber::read(es),
-            name,
-            rows,
-        },
-        Err(_) => unreachable(),
+    pub(crate) fn name_length(&self) -> usize
+        ensures length { result ≡ size_of self.now.bytes.now }
+        ensures one_byte { result < 256 }
+    {
+        usize::from(self.bytes[NUMBER_WIDTH + 2])
+    }
+
+    // Whether the entry has its name where it has to be.
+    fn is_placed(&self) -> bool
+        ensures { result ≡ (claimed_by self.now).placed }
+    {
+        from_two_bytes(self.bytes[NUMBER_WIDTH], self.bytes[NUMBER_WIDTH + 1]) == self.name_at
+            && self.name_length() <= self.names.len()
+    }
+
+    // Whether the entry has its name there, and it can be a name.
+    fn has_name(&self) -> bool
+        ensures { result ≡ name_fits (claimed_by self.now) }
+    {
+        self.is_placed() && is_name(&self.names[..self.name_length()])
+    }
+
+    // The bytes of a row, that far behind the number.
+    fn row_bytes(&self, at: usize) -> &[u8; 7]
+        requires { at ≤ 17 }
+        ensures { result.now ≡ take 7 (drop (number_width + at) self.now.bytes.now) }
+    {
+        self.bytes[NUMBER_WIDTH + at..].first_chunk().unwrap()
+    }
+
+    // The rows, or the refusal of the first that breaks its rule.
+    fn rows(&self) -> Result<Rows, Refusal>
+        ensures { ReadsRows self.now.ordinal self.now.bytes.now result }
+    {
+        let o = Row::read(self.row_bytes(3), self.ordinal)?;
+        let m = Row::read(self.row_bytes(10), self.ordinal)?;
+        let u = Row::read(self.row_bytes(17), self.ordinal)?;
+        Ok(Rows { o, m, u })
+    }
+
+    // Refuses an entry that does not follow one of the number `last`.
+    pub(crate) fn check(&self, last: PresetNumber) -> Result<(), Refusal>
+        ensures { Checks last.value self.now result }
+    {
+        if !self.number().rises_above(last) {
+            return Err(Refusal::Number(self.ordinal));
+        }
+        if !self.has_name() {
+            return Err(Refusal::Name(self.ordinal));
+        }
+        self.rows()?;
+        Ok(())
+    }
+
+    // The preset of an entry that nothing is wrong with.
+    pub(crate) fn preset(&self) -> Preset
+        requires { rows_keep (rows_of self.now.bytes.now) ≡ true }
+        ensures { Says self.now.name_at self.now.bytes.now result }
+    {
+        Preset {
+            number: self.number(),
+            name: Place {
+                offset: self.name_at,
+                length: self.name_length(),
+            },
+            rows: self.rows().unwrap(),
+        }
     }
 }

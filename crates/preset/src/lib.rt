@@ -1,6 +1,8 @@
 // Preset rows, presets and preset files: read, looked up and written.
 #![tactic(auto)]
 
+mod draft;
+mod entries;
 mod entry;
 mod file;
 mod layout;

@@ -6,7 +6,7 @@ ghost use Rattle.preset.specs.Presets.{row_numbers, three_rows};
 use crate::{PresetNumber, Programme, Row};
 
 // A place in a text: where it begins and how many bytes it has.
-#[derive(Clone, Copy)]
+#[derive(Clone, Copy, Debug, PartialEq, Eq)]
 pub struct Place {
     pub offset: usize,
     pub length: usize,
@@ -17,17 +17,13 @@ impl Place {
     pub(crate) fn part_of(self, text: &[u8]) -> Option<&[u8]>
         ensures { Hands text.now self result }
     {
-        if self.offset > text.len() || self.length > text.len() - self.offset {
-            return None;
-        }
-        let offset = self.offset;
-        let end = offset + self.length;
-        Some(&text[offset..end])
+        let end = self.offset.checked_add(self.length)?;
+        text.get(self.offset..end)
     }
 }
 
 // A row for each programme.
-#[derive(Clone, Copy)]
+#[derive(Clone, Copy, Debug, PartialEq, Eq)]
 pub struct Rows {
     pub o: Row,
     pub m: Row,
@@ -35,7 +31,7 @@ pub struct Rows {
 }
 
 // A preset. Its name is a place in a text that is kept beside it: the file that it was read from, or the text that it is written with.
-#[derive(Clone, Copy)]
+#[derive(Clone, Copy, Debug, PartialEq, Eq)]
 pub struct Preset {
     pub number: PresetNumber,
     pub name: Place,

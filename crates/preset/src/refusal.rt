@@ -41,13 +41,8 @@ impl Refusal {
         ensures { result ≡ refusal_entry self }
     {
         match self {
-            Refusal::Number(entry) => Some(entry),
-            Refusal::Name(entry) => Some(entry),
-            Refusal::Rows(entry) => Some(entry),
-            Refusal::Length => None,
-            Refusal::Version => None,
-            Refusal::Count => None,
-            Refusal::Room => None,
+            Refusal::Number(entry) | Refusal::Name(entry) | Refusal::Rows(entry) => Some(entry),
+            Refusal::Length | Refusal::Version | Refusal::Count | Refusal::Room => None,
         }
     }
 

@@ -1,9 +1,9 @@
 ghost use Rattle.std.specs.Prelude.{◌≡◌, true, codes};
-ghost use Rattle.preset.specs.Rule.{pzb90, row_of, rows_keep};
-ghost use Rattle.preset.specs.Presets.{LiesIn, named, row_numbers};
+ghost use Rattle.preset.specs.Rule.{pzb90, rows_keep};
+ghost use Rattle.preset.specs.Presets.{LiesIn, named};
 ghost use Rattle.preset.specs.Standard.{standard};
 
-use crate::{Place, Preset, PresetNumber, Programme, Row, Rows};
+use crate::{Place, Preset, PresetNumber, Row, Rows};
 
 // The PZB 90 rows in the order O, M, U, each with its numbers in the file's order. All that uses PZB 90 takes them from here.
 const PZB90_ROWS: [[u8; 7]; 3] = [
@@ -12,35 +12,22 @@ const PZB90_ROWS: [[u8; 7]; 3] = [
     [105, 55, 38, 40, 25, 25, 25],
 ];
 
-// The row of the table for a programme.
-fn table_row(programme: Programme) -> Row
-    ensures { row_numbers result ≡ row_of pzb90 programme }
-{
-    let numbers = match programme {
-        Programme::O => PZB90_ROWS[0],
-        Programme::M => PZB90_ROWS[1],
-        Programme::U => PZB90_ROWS[2],
-    };
-    match Row::read(&numbers, 0) {
-        Ok(row) => row,
-        Err(_) => unreachable(),
-    }
-}
-
 impl Preset {
     // The text that the PZB 90 preset's name is a place in.
     pub const PZB90_NAME: [u8; 8] = *b"Standard";
 
     // The PZB 90 preset: number 1, `Standard`, and the rows of the table.
     pub fn pzb90() -> Preset
-        ensures preset { (named (codes "Standard") result ≡ standard) × (LiesIn (codes "Standard") result.name) }
+        ensures standard { named (codes "Standard") result ≡ standard }
+        ensures name_lies_in_its_text { LiesIn (codes "Standard") result.name }
         ensures name_text { Preset.PZB90_NAME ≡ codes "Standard" }
         ensures table_keeps_the_rule { rows_keep pzb90 ≡ true }
     {
+        let [o, m, u] = PZB90_ROWS;
         let rows = Rows {
-            o: table_row(Programme::O),
-            m: table_row(Programme::M),
-            u: table_row(Programme::U),
+            o: Row::read(&o, 0).unwrap(),
+            m: Row::read(&m, 0).unwrap(),
+            u: Row::read(&u, 0).unwrap(),
         };
         Preset {
             number: PresetNumber { value: 1 },

@@ -1,51 +1,15 @@
 ghost use Rattle.std.specs.Prelude.{◌≡◌, ◌+◌, ◌<◌, ◌≤◌, ◌∷◌, ◌++◌, length, take, drop};
 ghost use Rattle.preset.specs.Calls.{ReadBack, Wrote};
-ghost use Rattle.preset.specs.Format.{encoded, rows_bytes, total};
+ghost use Rattle.preset.specs.Format.{encoded, rows_bytes};
 ghost use Rattle.preset.specs.Presets.{all_named, three_rows};
-ghost use Rattle.preset.specs.Steps.{Admits, Measures, inside};
 ghost use Rattle.preset.specs.Width.{entry_size, number_bytes, two_bytes};
 
-use crate::file::COUNT_MOST;
-use crate::layout::{HEADER_SIZE, VERSION, names_start};
-use crate::name::is_name;
-use crate::{Preset, PresetNumber, Refusal};
-
-// What is wrong with the preset k that is to be written.
-fn preset_fault(preset: &Preset, text: &[u8], k: u8, last: PresetNumber) -> Option<Refusal>
-    ensures { Admits k last.value text.now preset.now result }
-{
-    if !preset.number.rises_above(last) {
-        return Some(Refusal::Number(k));
-    }
-    let Some(name) = preset.name.part_of(text) else {
-        return Some(Refusal::Name(k));
-    };
-    if !is_name(name) {
-        return Some(Refusal::Name(k));
-    }
-    None
-}
-
-// How many bytes the file of the presets has, where nothing is wrong with them.
-fn measured(presets: &[Preset], text: &[u8]) -> Result<usize, Refusal>
-    requires { length presets.now ≤ 32 }
-    ensures { Measures presets.now text.now result }
-{
-    let mut k = 0;
-    let mut last = PresetNumber::NONE;
-    let mut extent = names_start(presets.len());
-    for p in presets {
-        k += 1;
-        if let Some(e) = preset_fault(p, text, k, last) {
-            return Err(e);
-        }
-        last = p.number;
-        extent += p.name.length;
-    }
-    Ok(extent)
-}
+use crate::draft::Draft;
+use crate::layout::{HEADER_SIZE, VERSION, names_start, to_two_bytes};
+use crate::{Preset, Refusal};
 
 // Puts a part into the buffer, and says where it ends.
+// By places: what `std` promises of a writer over `&mut [u8]` is the room that is left, and not the bytes that the buffer holds.
 fn put(buffer: &mut [u8], at: usize, part: &[u8]) -> usize
     requires { at + length part.now ≤ length buffer.old }
     ensures end { result ≡ at + length part.now }
@@ -57,56 +21,45 @@ fn put(buffer: &mut [u8], at: usize, part: &[u8]) -> usize
     end
 }
 
-// Puts the entry of a preset whose name lies at `at`.
-fn put_entry(buffer: &mut [u8], pos: usize, preset: &Preset, at: usize) -> usize
-    requires { (pos + entry_size ≤ length buffer.old) × ((at < 65536) × (preset.now.name.length ≤ 24)) }
-    ensures end { result ≡ pos + entry_size }
-    ensures front { take result buffer.new ≡ take pos buffer.old ++ (number_bytes preset.now.number.value ++ (two_bytes at ++ (preset.now.name.length ∷ rows_bytes (three_rows preset.now.rows)))) }
+// Puts the entry of a preset whose name lies at `name_at`. Narrowing is by `as` here: the check shows that nothing is lost, and `try_from` would
+// bring a case that never comes.
+fn put_entry(buffer: &mut [u8], at: usize, preset: &Preset, name_at: u16) -> usize
+    requires room { at + entry_size ≤ length buffer.old }
+    requires short { preset.now.name.length ≤ 24 }
+    ensures end { result ≡ at + entry_size }
+    ensures front { take result buffer.new ≡ take at buffer.old ++ (number_bytes preset.now.number.value ++ (two_bytes name_at ++ (preset.now.name.length ∷ rows_bytes (three_rows preset.now.rows)))) }
     ensures back { drop result buffer.new ≡ drop result buffer.old }
 {
+    let [high, low] = to_two_bytes(name_at);
     // each place is named by what comes there
-    let name = put(buffer, pos, &preset.number.bytes());
-    let rows = put(
-        buffer,
-        name,
-        &[(at / 256) as u8, (at % 256) as u8, preset.name.length as u8],
-    );
+    let name = put(buffer, at, &preset.number.bytes());
+    let rows = put(buffer, name, &[high, low, preset.name.length as u8]);
     let m = put(buffer, rows, &preset.rows.o.numbers());
     let u = put(buffer, m, &preset.rows.m.numbers());
     put(buffer, u, &preset.rows.u.numbers())
 }
 
 // Puts the whole file.
-fn put_all(presets: &[Preset], text: &[u8], extent: usize, buffer: &mut [u8])
-    requires few { length presets.now ≤ 32 }
-    requires extent { extent ≡ total (all_named text.now presets.now) }
-    requires short { extent < 65536 }
-    requires within { inside text.now presets.now }
-    requires room { extent ≤ length buffer.old }
-    ensures { buffer.new ≡ encoded (all_named text.now presets.now) ++ drop extent buffer.old }
+fn put_all(draft: &Draft, buffer: &mut [u8])
+    requires { draft.now.extent ≤ length buffer.old }
+    ensures { buffer.new ≡ encoded (all_named draft.now.text.now draft.now.presets.now) ++ drop draft.now.extent buffer.old }
 {
-    let count = presets.len() as u8;
-    let mut pos = put(
+    let [high, low] = to_two_bytes(draft.extent as u16);
+    let count = draft.presets.len() as u8;
+    let mut at = put(
         buffer,
         0,
-        &[
-            VERSION,
-            count,
-            0,
-            HEADER_SIZE as u8,
-            (extent / 256) as u8,
-            (extent % 256) as u8,
-        ],
+        &[VERSION, count, 0, HEADER_SIZE as u8, high, low],
     );
-    let mut at = names_start(presets.len());
-    for p in presets {
-        pos = put_entry(buffer, pos, p, at);
-        at += p.name.length;
+    let mut name_at = names_start(draft.presets.len());
+    for preset in draft.presets {
+        at = put_entry(buffer, at, preset, name_at as u16);
+        name_at += preset.name.length;
     }
-    for q in presets {
-        let from = q.name.offset;
-        let end = from + q.name.length;
-        pos = put(buffer, pos, &text[from..end]);
+    for named in draft.presets {
+        let from = named.name.offset;
+        let end = from + named.name.length;
+        at = put(buffer, at, &draft.text[from..end]);
     }
 }
 
@@ -115,13 +68,10 @@ pub fn write(presets: &[Preset], text: &[u8], buffer: &mut [u8]) -> Result<usize
     ensures answer { Wrote presets.now text.now buffer.old buffer.new result }
     ensures read_back { ReadBack presets.now text.now buffer.new result }
 {
-    if presets.len() < 1 || presets.len() > COUNT_MOST as usize {
-        return Err(Refusal::Count);
-    }
-    let extent = measured(presets, text)?;
-    if extent > buffer.len() {
+    let draft = Draft::of(presets, text)?;
+    if draft.extent > buffer.len() {
         return Err(Refusal::Room);
     }
-    put_all(presets, text, extent, buffer);
-    Ok(extent)
+    put_all(&draft, buffer);
+    Ok(draft.extent)
 }

@@ -1,15 +1,15 @@
+use crate::samples::{Refused, known_by};
 use preset::{Preset, Programme, Row};
 
 // One row: top, low, fall, high5, low5, rhigh, rlow.
 type Numbers = [u8; 7];
 
-// The number of the refusal and its entry, or 0 where the row is made and has those numbers.
-fn made(numbers: Numbers) -> (u8, Option<u8>) {
+// The numbers of the row that is made, or what its refusal is known by.
+fn made(numbers: Numbers) -> Result<Numbers, Refused> {
     let [top, low, fall, high5, low5, rhigh, rlow] = numbers;
-    match Row::new(rlow, rhigh, low5, high5, top, low, fall) {
-        Ok(row) => (if row.numbers() == numbers { 0 } else { 255 }, None),
-        Err(e) => (e.number(), e.entry()),
-    }
+    Row::new(rlow, rhigh, low5, high5, top, low, fall)
+        .map(|row| row.numbers())
+        .map_err(known_by)
 }
 
 // Each bound of the rule, first kept and then broken by one, with all others kept.
@@ -37,8 +37,8 @@ const BOUNDS: [[Numbers; 2]; 12] = [
 #[test]
 fn each_bound_of_the_row_rule(rt: HostRuntime) {
     for [kept, broken] in BOUNDS {
-        assert_eq!(rt; made(kept), (0, None));
-        assert_eq!(rt; made(broken), (6, Some(0)));
+        assert_eq!(rt; made(kept), Ok(kept));
+        assert_eq!(rt; made(broken), Err((6, Some(0))));
     }
 }
 

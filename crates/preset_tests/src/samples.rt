@@ -1,4 +1,4 @@
-use preset::read;
+use preset::{Refusal, read};
 use std::alloc::{AllocError, Global};
 use std::test::Fail;
 
@@ -24,15 +24,21 @@ pub(crate) const PAIR: [u8; 59] = *b"\
     \x2d\x2d\x01\x2d\x01\x01\x01\
     ABC";
 
-// Changes of some bytes, each a place and a value; what comes of reading them, as `outcome` says it; and what they are.
-pub(crate) type Case = (&'static [(usize, u8)], (u8, u8), &'static str);
+// What a refusal is known by: its number, and the entry that it names.
+pub(crate) type Refused = (u8, Option<u8>);
 
-// The number of the refusal, or 0 where the bytes are read, and its entry, or 0 where it names none.
-pub(crate) fn outcome(bytes: &[u8]) -> (u8, u8) {
-    match read(bytes) {
-        Ok(_) => (0, 0),
-        Err(e) => (e.number(), e.entry().unwrap_or(0)),
-    }
+pub(crate) fn known_by(refusal: Refusal) -> Refused {
+    (refusal.number(), refusal.entry())
+}
+
+// What comes of reading bytes.
+pub(crate) type Outcome = Result<(), Refused>;
+
+// Changes of some bytes, each a place and a value; what comes of reading them; and what they are.
+pub(crate) type Case = (&'static [(usize, u8)], Outcome, &'static str);
+
+pub(crate) fn outcome(bytes: &[u8]) -> Outcome {
+    read(bytes).map(|_| ()).map_err(known_by)
 }
 
 // Changes the bytes by each case in turn, and compares.
@@ -57,9 +63,7 @@ pub(crate) fn named(heap: Global, length: u8) -> Result<Vec<u8>, AllocError> {
     let mut file = Vec::new(heap);
     file.extend_from_slice(&[1, 1, 0, 6, 0, length.saturating_add(31), 1, 0, 31, length])?;
     file.extend_from_slice(&STANDARD[10..31])?;
-    for _ in 0..length {
-        file.push(65)?;
-    }
+    file.resize(file.len().saturating_add(usize::from(length)), 65)?;
     Ok(file)
 }
 
@@ -69,13 +73,11 @@ pub(crate) fn built(heap: Global, count: u8) -> Result<Vec<u8>, AllocError> {
     let [high, low] = names.wrapping_add(u16::from(count)).to_be_bytes();
     let mut file = Vec::new(heap);
     file.extend_from_slice(&[1, count, 0, 6, high, low])?;
-    for i in 0..count {
-        let [high, low] = names.wrapping_add(u16::from(i)).to_be_bytes();
-        file.extend_from_slice(&[i.saturating_add(1), high, low, 1])?;
+    for (number, name_at) in (1..=count).zip(names..) {
+        let [high, low] = name_at.to_be_bytes();
+        file.extend_from_slice(&[number, high, low, 1])?;
         file.extend_from_slice(&STANDARD[10..31])?;
     }
-    for _ in 0..count {
-        file.push(65)?;
-    }
+    file.resize(file.len().saturating_add(usize::from(count)), 65)?;
     Ok(file)
 }

@@ -1,4 +1,4 @@
-use crate::samples::{PAIR, STANDARD};
+use crate::samples::{PAIR, Refused, STANDARD, known_by};
 use preset::{Place, Preset, PresetNumber, read, write};
 use std::alloc::{AllocError, Global};
 use std::test::Fail;
@@ -12,32 +12,24 @@ fn preset(number: u8, offset: usize, length: usize) -> Preset {
     }
 }
 
-// What the writer answers: the file's length, or the refusal's number and its entry, or 0 where it names none.
-type Answer = Result<usize, (u8, u8)>;
+// What the writer answers: the file's length, or what its refusal is known by.
+type Answer = Result<usize, Refused>;
 
 // What the writer answers of presets over a text, in a buffer of `room` sevens. Where it refuses, these are still there.
 fn written(heap: Global, presets: &[Preset], text: &[u8], room: usize) -> Result<Answer, Fail> {
     let mut buffer = vec![in heap; 7u8; room]?;
-    match write(presets, text, buffer.as_mut_slice()) {
-        Ok(length) => Ok(Ok(length)),
-        Err(e) => {
-            for b in buffer.iter() {
-                if *b != 7 {
-                    return Err(Fail::new("a refusal wrote into the buffer"));
-                }
-            }
-            Ok(Err((e.number(), e.entry().unwrap_or(0))))
-        }
+    let answer = write(presets, text, buffer.as_mut_slice());
+    if answer.is_err() && buffer.iter().any(|b| *b != 7) {
+        return Err(Fail::new("a refusal wrote into the buffer"));
     }
+    Ok(answer.map_err(known_by))
 }
 
 // The presets 1 to `count`, each named by the first bytes of the text.
 fn many(heap: Global, count: u8, length: usize) -> Result<Vec<Preset>, AllocError> {
-    let mut presets = Vec::new(heap);
-    for number in 0..count {
-        presets.push(preset(number.saturating_add(1), 0, length))?;
-    }
-    Ok(presets)
+    (1..=count)
+        .map(|number| preset(number, 0, length))
+        .collect(heap)
 }
 
 #[test]
@@ -51,9 +43,7 @@ fn the_pzb90_preset_is_written(rt: HostRuntime) {
 
 #[test]
 fn what_was_read_is_written_again(rt: HostRuntime) -> Result<(), Fail> {
-    let Ok(file) = read(&PAIR) else {
-        return Err(Fail::new("the file is refused"));
-    };
+    let file = read(&PAIR)?;
     let presets = file.presets();
     let mut buffer = [7u8; 59];
     assert!(rt; write(presets.as_slice(), &PAIR, &mut buffer) == Ok(59));
@@ -64,11 +54,11 @@ fn what_was_read_is_written_again(rt: HostRuntime) -> Result<(), Fail> {
 #[test]
 fn the_count_is_1_to_32(rt: HostRuntime) -> Result<(), Fail> {
     let heap = rt.alloc();
-    assert_eq!(rt; written(heap, &[], b"A", 2000)?, Err((3, 0)));
+    assert_eq!(rt; written(heap, &[], b"A", 2000)?, Err((3, None)));
     let over = many(heap, 33, 24)?;
     assert_eq!(rt;
         written(heap, over.as_slice(), b"abcdefghijklmnopqrstuvwx", 2000)?,
-        Err((3, 0))
+        Err((3, None))
     );
     Ok(())
 }
@@ -78,13 +68,11 @@ fn the_largest_file_is_read(rt: HostRuntime) -> Result<(), Fail> {
     let most = many(rt.alloc(), 32, 24)?;
     let mut buffer = [7u8; 1574];
     assert!(rt; write(most.as_slice(), b"abcdefghijklmnopqrstuvwx", &mut buffer) == Ok(1574));
-    let Ok(file) = read(&buffer) else {
-        return Err(Fail::new("the file is refused"));
-    };
+    let file = read(&buffer)?;
     assert_eq!(rt; file.presets().as_slice().len(), 32);
-    let Some(last) = file.lookup(PresetNumber { value: 32 }) else {
-        return Err(Fail::new("32 is not found"));
-    };
+    let last = file
+        .lookup(PresetNumber { value: 32 })
+        .ok_or("32 is not found")?;
     assert_eq!(rt; last.name.offset, 1550);
     assert!(rt; file.name(&last) == Some(b"abcdefghijklmnopqrstuvwx"));
     Ok(())
@@ -92,10 +80,10 @@ fn the_largest_file_is_read(rt: HostRuntime) -> Result<(), Fail> {
 
 // Two numbers, one after the other.
 const NUMBERS: [(u8, u8, Answer); 4] = [
-    (0, 1, Err((4, 1))),
+    (0, 1, Err((4, Some(1)))),
     (254, 255, Ok(58)),
-    (8, 8, Err((4, 2))),
-    (8, 7, Err((4, 2))),
+    (8, 8, Err((4, Some(2)))),
+    (8, 7, Err((4, Some(2)))),
 ];
 
 #[test]
@@ -113,7 +101,7 @@ fn numbers_rise(rt: HostRuntime) -> Result<(), Fail> {
     }
     assert_eq!(rt;
         written(rt.alloc(), &[preset(0, 0, 0)], b"A", 99)?,
-        Err((4, 1)),
+        Err((4, Some(1))),
         "the number before the name"
     );
     Ok(())
@@ -121,14 +109,14 @@ fn numbers_rise(rt: HostRuntime) -> Result<(), Fail> {
 
 // Places in a text of 26 bytes.
 const PLACES: [(usize, usize, Answer); 8] = [
-    (0, 0, Err((5, 1))),
+    (0, 0, Err((5, Some(1)))),
     (0, 1, Ok(32)),
     (0, 24, Ok(55)),
-    (0, 25, Err((5, 1))),
+    (0, 25, Err((5, Some(1)))),
     (25, 1, Ok(32)),
-    (25, 2, Err((5, 1))),
-    (26, 1, Err((5, 1))),
-    (usize::MAX, 24, Err((5, 1))),
+    (25, 2, Err((5, Some(1)))),
+    (26, 1, Err((5, Some(1)))),
+    (usize::MAX, 24, Err((5, Some(1)))),
 ];
 
 #[test]
@@ -145,9 +133,9 @@ fn names_are_places_in_the_text(rt: HostRuntime) -> Result<(), Fail> {
 
 const NAME_BYTES: [(u8, Answer); 4] = [
     (32, Ok(32)),
-    (31, Err((5, 1))),
+    (31, Err((5, Some(1)))),
     (126, Ok(32)),
-    (127, Err((5, 1))),
+    (127, Err((5, Some(1)))),
 ];
 
 #[test]
@@ -167,11 +155,11 @@ fn the_buffer_is_long_enough(rt: HostRuntime) -> Result<(), Fail> {
     assert_eq!(rt; written(heap, &[preset(1, 0, 8)], b"Standard", 39)?, Ok(39));
     assert_eq!(rt;
         written(heap, &[preset(1, 0, 8)], b"Standard", 38)?,
-        Err((7, 0))
+        Err((7, None))
     );
     assert_eq!(rt;
         written(heap, &[preset(1, 0, 9)], b"Standard", 38)?,
-        Err((5, 1)),
+        Err((5, Some(1))),
         "the name before the room"
     );
     Ok(())

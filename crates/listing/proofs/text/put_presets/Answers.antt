@@ -1,35 +1,30 @@
-use Rattle.std.proofs.Common.{◌≡◌, ◌+◌, ◌++◌, drop, vec_items, sym, ap, ◌∙◌, arith}
-use Rattle.std.proofs.lemmas.List.{append_assoc, append-nil, drop_all}
-use Rattle.preset.specs.Presets.{all_named, named, three_rows}
+use Rattle.std.proofs.Common.{◌≡◌, ℕ, ◌+◌, ◌<◌, List, ◌++◌, length, get_or, take, arith}
+use Rattle.std.proofs.lemmas.List.{flat_map_more, map_more, get_or-map, length-map}
+use Rattle.preset.specs.Format.{Named}
+use Rattle.preset.specs.Presets.{all_named, named, part, three_rows}
+use Rattle.preset.specs.Valid.{Sound}
+use Rattle.preset.specs.declared.preset.Preset.{Preset}
 use Rattle.listing.specs.Report.{all_lines, preset_lines}
-use Rattle.listing.proofs.Appends.{lies_here, lines_here}
 use Rattle.listing.proofs.text.put_presets.Goals as goal
 
-pub unreachable-requires : goal.unreachable-requires
-unreachable-requires c =
-    c.in-None.ensures (lies_here c.args.file.now.bytes.now c.args.presets.now c.loop-preset.preset-index c.preset-item.result (omega arith) c.preset-item.is c.loop-preset.invariant.0).0
-
-pub loop-preset-preserved : goal.loop-preset-preserved
-loop-preset-preserved c =
-    let b = c.args.file.now.bytes.now in
+pub name_of-name-requires-clause-printable : goal.name_of-name-requires-clause-printable
+name_of-name-requires-clause-printable c =
     let ps = c.args.presets.now in
     let i = c.loop-preset.preset-index in
     let x = c.preset-item.result in
-    let l = lies_here b ps i x (omega arith) c.preset-item.is c.loop-preset.invariant.0 in
-    let o = vec_items c.loop-preset.out in
-    let rows = three_rows x.rows in
-    let more : vec_items c.put_preset.new.out ≡ o ++ preset_lines (named b x).number (named b x).name (named b x).rows =
-    c.in_ok-put_preset-in-Some.ensures ∙ ap (λ t. o ++ preset_lines x.number.value t rows) c.in-Some.ensures.1 in
-    let rest = all_lines (all_named b (drop (i + 1) ps)) in (
-      l.1,
-      ap (λ t. t ++ rest) more ∙
-          (append_assoc o (preset_lines (named b x).number (named b x).name (named b x).rows) rest ∙
-          (ap (λ t. o ++ t) (sym (lines_here b ps i x (omega arith) c.preset-item.is)) ∙ c.loop-preset.invariant.1)),
-    )
+    let of = named c.args.file.now.bytes.now in
+    let sound : Sound (of x) = rw (c.preset-item.is, ← get_or-map of ps i x (of x) (omega arith)) (c.requires.sound i (of x) (simp length-map (omega arith))) in
+    sound.name
 
-pub returns : goal.returns
-returns c =
-    let b = c.args.file.now.bytes.now in
-    let o = vec_items c.loop-preset.out in
-    let done = drop_all c.loop-preset.preset-index c.args.presets.now (omega arith) in
-    sym (append-nil o) ∙ (ap (λ ys. o ++ all_lines (all_named b ys)) (sym done) ∙ c.loop-preset.invariant.1)
+-- the lines of the next preset, put behind those so far
+more : (b before so_far after name : List ℕ) (ps : List Preset) (i : ℕ) (x : Preset) → i < length ps → x ≡ get_or ps i x → name ≡ part b x.name
+    → so_far ≡ before ++ all_lines (all_named b (take i ps)) → after ≡ so_far ++ preset_lines x.number.value name (three_rows x.rows)
+    → after ≡ before ++ all_lines (all_named b (take (i + 1) ps))
+more b before so_far after name ps i x h is e p q =
+    let next = map_more (named b) ps i x h in
+    let lines = flat_map_more (λ (p : Named). preset_lines p.number p.name p.rows) before (all_named b (take i ps)) (named b x) in
+    cc
+
+pub loop-preset-preserved : goal.loop-preset-preserved
+loop-preset-preserved c =
+    more _ _ _ _ _ _ _ _ (omega arith) c.preset-item.is c.name_of-name.ensures c.loop-preset.invariant c.in_ok-write.ensures.bytes

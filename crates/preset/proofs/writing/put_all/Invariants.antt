@@ -1,22 +1,23 @@
 use Rattle.std.proofs.Common.{◌≡◌, ◌+◌, ◌++◌, length, take, drop}
 use Rattle.preset.specs.Format.{base, names, entries, header}
 use Rattle.preset.specs.Presets.{all_named}
-use Rattle.preset.specs.Steps.{inside}
 use Rattle.preset.proofs.writing.put_all.Given as goal
 
-abbrev pub invariant-loop-p : goal.invariant-loop-p
-invariant-loop-p l =
-    (l.pos ≡ base l.p-index) ×
-    (l.at + length (names (all_named l.text (drop l.p-index l.presets))) ≡ l.extent) ×
-    inside l.text (drop l.p-index l.presets) ×
-    (take l.pos l.buffer ++ entries l.at (all_named l.text (drop l.p-index l.presets)) ≡
-    header (length l.presets) l.extent ++ entries (base (length l.presets)) (all_named l.text l.presets)) ×
-    (drop l.pos l.buffer ≡ drop l.pos l.initial.buffer)
+abbrev pub invariant-loop-preset : goal.invariant-loop-preset
+invariant-loop-preset l =
+    record {
+      at_is : l.at ≡ base l.preset-index;
+      long : l.name_at + length (names (all_named l.draft.text.now (drop l.preset-index l.draft.presets.now))) ≡ l.draft.extent;
+      done : take l.at l.buffer ++ entries l.name_at (all_named l.draft.text.now (drop l.preset-index l.draft.presets.now)) ≡
+          header (length l.draft.presets.now) l.draft.extent ++ entries (base (length l.draft.presets.now)) (all_named l.draft.text.now l.draft.presets.now);
+      behind : drop l.at l.buffer ≡ drop l.at l.initial.buffer;
+    }
 
-abbrev pub invariant-loop-q : goal.invariant-loop-q
-invariant-loop-q l =
-    (l.pos + length (names (all_named l.text (drop l.q-index l.presets))) ≡ l.extent) ×
-    inside l.text (drop l.q-index l.presets) ×
-    (take l.pos l.buffer ++ names (all_named l.text (drop l.q-index l.presets)) ≡
-    take l.initial.pos l.initial.buffer ++ names (all_named l.text l.presets)) ×
-    (drop l.pos l.buffer ≡ drop l.pos l.initial.buffer)
+abbrev pub invariant-loop-named : goal.invariant-loop-named
+invariant-loop-named l =
+    record {
+      long : l.at + length (names (all_named l.draft.text.now (drop l.named-index l.draft.presets.now))) ≡ l.draft.extent;
+      done : take l.at l.buffer ++ names (all_named l.draft.text.now (drop l.named-index l.draft.presets.now)) ≡
+          take l.initial.at l.initial.buffer ++ names (all_named l.draft.text.now l.draft.presets.now);
+      behind : drop l.at l.buffer ≡ drop l.at l.initial.buffer;
+    }

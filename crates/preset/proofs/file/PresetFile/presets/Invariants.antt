@@ -1,14 +1,19 @@
-use Rattle.std.proofs.Common.{◌≡◌, ◌++◌, map, length}
+use Rattle.std.proofs.Common.{◌≡◌, ◌++◌, All, map, length}
 use Rattle.preset.specs.Entries.{held}
 use Rattle.preset.specs.Presets.{held_as, listed}
-use Rattle.preset.specs.Steps.{inside}
+use Rattle.preset.specs.Steps.{Lies}
 use Rattle.preset.proofs.Bytes.{Bytes}
-use Rattle.preset.proofs.Walks.{Stands, held_from}
+use Rattle.preset.proofs.Walks.{Stands, held_left}
 use Rattle.preset.proofs.file.PresetFile.presets.Given as goal
 
-abbrev pub invariant-loop-i : goal.invariant-loop-i
-invariant-loop-i l =
-    Stands l.bytes l.count l.i l.at ×
-    (map (held_as l.bytes) (listed l.presets) ++ held_from l.bytes l.count l.i l.at ≡ held l.bytes) ×
-    inside l.bytes (listed l.presets) × Bytes l.bytes ×
-    (length (listed l.presets) ≡ l.i)
+abbrev pub invariant-loop-entry : goal.invariant-loop-entry
+invariant-loop-entry l =
+    record {
+      can_next : (goal.iterator-loop-entry).can_next l.entry-iterator;
+      is_finite : (goal.iterator-loop-entry).is_finite l.entry-iterator;
+      stands : Stands l.self.bytes.now l.entry-iterator;
+      same : map (held_as l.self.bytes.now) (listed l.presets) ++ held_left l.entry-iterator ≡ held l.self.bytes.now;
+      lie : All (Lies l.self.bytes.now) (listed l.presets);
+      bytes : Bytes l.self.bytes.now;
+      counted : length (listed l.presets) ≡ l.entry-iterator.places.start;
+    }

@@ -1,0 +1,49 @@
+-- The walk over the entries of a file.
+use Rattle.std.specs.Prelude.{◌≡◌, ℕ, ◌+◌, ◌-◌, ◌<◌, ◌≤◌, List, Some, None, Ok, Err, Option, Result, drop, slice_index}
+use Rattle.preset.specs.Width.{size_of, entry_size}
+use Rattle.preset.specs.Format.{base, header_size}
+use Rattle.preset.specs.Entries.{Claim, claim, claims, count_in}
+use Rattle.preset.specs.Steps.{Passes, Fails}
+use Rattle.preset.specs.declared.entry.Entry.{Entry}
+use Rattle.preset.specs.declared.entries.Entries.{Entries}
+use Rattle.preset.specs.declared.refusal.Refusal.{Refusal}
+
+-- what an entry claims
+abbrev pub claimed_by : Entry → Claim
+claimed_by e = claim e.name_at e.bytes.now e.names.now
+
+-- an entry that follows one of the number `last` is refused, or nothing is wrong with it
+abbrev pub Checks : (last : ℕ) → Entry → Result (Unit {0}) Refusal → Type 0
+Checks last e (Ok u) = Passes e.ordinal last (claimed_by e)
+Checks last e (Err r) = Fails e.ordinal last (claimed_by e) r
+
+-- the first entry of a file is next
+pub record Begins (b : List ℕ) (s : Entries) : Type 0 where
+  pub first : s.places.start ≡ 0
+  pub behind_last : s.places.end ≡ count_in b
+  pub bytes : s.bytes.now ≡ drop header_size b
+  pub names : s.names.now ≡ drop (base (count_in b)) b
+  pub name_at : s.name_at ≡ base (count_in b)
+  pub each_a_byte : (i : ℕ) → slice_index b i < 256
+
+-- an entry is the next one, and then the one behind it is
+pub record GoesTo (s : Entries) (e : Entry) (t : Entries) : Type 0 where
+  pub left : s.places.start + 1 ≤ s.places.end
+  pub ordinal : e.ordinal ≡ s.places.start + 1
+  pub bytes : e.bytes.now ≡ s.bytes.now
+  pub names : e.names.now ≡ s.names.now
+  pub name_at : e.name_at ≡ s.name_at
+  pub next : t.places.start ≡ s.places.start + 1
+  pub behind_last : t.places.end ≡ s.places.end
+  pub bytes_behind : t.bytes.now ≡ drop entry_size s.bytes.now
+  pub names_behind : t.names.now ≡ drop (size_of s.bytes.now) s.names.now
+  pub name_at_behind : t.name_at ≡ s.name_at + size_of s.bytes.now
+
+-- what comes next, and what is left then
+abbrev pub Goes : Entries → Option Entry → Entries → Type 0
+Goes s None t = s.places.end ≤ s.places.start
+Goes s (Some e) t = GoesTo s e t
+
+-- the claims of the entries that are left
+abbrev pub claims_left : Entries → List Claim
+claims_left s = claims (s.places.end - s.places.start) s.name_at s.bytes.now s.names.now
