@@ -14,6 +14,13 @@ pub trait Brake {
 
     ghost SETTLES_AT_ONCE: { Bool };
 
+    // The constant, for callers that have a function to ask.
+    fn settled_when_applied() -> bool
+        ensures { result ≡ SETTLES_AT_ONCE }
+    {
+        Self::SETTLES_AT_ONCE
+    }
+
     // What applying needs.
 
     fn apply(&mut self)

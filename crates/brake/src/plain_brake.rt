@@ -5,7 +5,7 @@ ghost use Rattle.brake.specs.PlainBrake.{plain_facts};
 use crate::{Brake, Pressure, Refusal};
 
 // A brake that holds its two facts and nothing else, of the kind that settles at once or of the kind that does not.
-// Two bools: the rules speak of two facts, and an enum of three states could not say settled and not applied.
+// Two bools: the rules speak of two facts, each with a question of its own.
 #[derive(Debug, Drop)]
 pub struct PlainBrake<const AT_ONCE: bool> {
     applied: bool,

@@ -1,7 +1,7 @@
 ghost use Rattle.std.specs.Prelude.{◌≡◌};
 ghost use Rattle.brake.specs.Refusals.{refusal_layer, refusal_number};
 
-// Why a brake is not let off.
+// Why a brake is not let off. Its number and layer are its own: crates of one level know nothing of one another.
 #[derive(Clone, Copy, PartialEq, Eq, Debug)]
 pub enum Refusal {
     // it is not settled

@@ -5,7 +5,7 @@ ghost use Rattle.preset.specs.Presets.{three_rows};
 use preset::{Preset, Programme, Refusal};
 use std::fmt;
 
-// A programme's letter. No `Display`: both the trait and the type are of other crates.
+// A programme's letter. No `Display`: `preset` knows nothing of reports, and here both the trait and the type are of other crates.
 fn letter(programme: Programme) -> &'static str
     ensures { result.now ≡ letter_of programme }
 {

@@ -53,7 +53,7 @@ fn written_back(heap: Global, presets: &[Preset], bytes: &[u8]) -> Result<Writte
     Ok(WrittenBack { length, verdict })
 }
 
-// What comes after the first line: the presets and what came of writing them back, or the refusal. It alone needs the text and memory beside it.
+// What comes after the first line: the presets and what came of writing them back, or the refusal.
 fn put_outcome(heap: Global, out: &mut String, bytes: &[u8]) -> Result<(), AllocError>
     ensures { OnOk result (string_bytes out.new ≡ string_bytes out.old ++ outcome bytes.now (first_refusal bytes.now)) }
 {

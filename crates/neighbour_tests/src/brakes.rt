@@ -75,15 +75,15 @@ fn a_loop_settles_at_once() -> Result<(), Fail> {
     )
 }
 
-// The kind of a brake, by its bound.
-fn settles_at_once<B: Brake>() -> bool {
-    B::SETTLES_AT_ONCE
+// What the kind of a brake says, by its constant and by its method.
+fn kind<B: Brake>() -> (bool, bool) {
+    (B::SETTLES_AT_ONCE, B::settled_when_applied())
 }
 
 #[test]
 fn the_kinds(rt: HostRuntime) {
-    assert_eq!(rt; settles_at_once::<Valve>(), false);
-    assert_eq!(rt; settles_at_once::<BrakeLoop>(), true);
+    assert_eq!(rt; kind::<Valve>(), (false, false));
+    assert_eq!(rt; kind::<BrakeLoop>(), (true, true));
 }
 
 // Whether a brake is let off once it was applied and told these pressures.

@@ -5,4 +5,5 @@ pub mod WheelWay
 pub mod Wheel
 pub mod TelegramWay
 pub mod Telegram
-pub mod WheelRises
+pub mod Moves
+pub mod WheelSums

@@ -7,7 +7,7 @@ ghost use Rattle.odometer.specs.Way.{way_most};
 use crate::{Fault, Odometer, Place, Way};
 
 // The first place that was read and the last one.
-#[derive(Clone, Copy)]
+#[derive(Clone, Copy, Debug)]
 struct Places {
     first: Place,
     last: Place,
@@ -52,7 +52,7 @@ impl Places {
 }
 
 // Reads places on the line out of telegrams. It counts from the first place.
-#[derive(Drop)]
+#[derive(Debug, Drop)]
 pub struct Telegram {
     // nothing before the first good reading
     places: Option<Places>,

@@ -4,7 +4,7 @@ ghost use Rattle.odometer.specs.Way.{outcome, too_far};
 
 use crate::Fault;
 
-// A way from where an odometer began to count, in millimetres. Its range is no invariant of it: a way beyond that is reckoned before it is refused.
+// A way from where an odometer began to count, in millimetres; no other length is one. Its range is no invariant of it: a way beyond that is reckoned before it is refused.
 #[derive(Clone, Copy, PartialEq, Eq, PartialOrd, Ord, Debug)]
 pub struct Way {
     pub millimetres: u64,

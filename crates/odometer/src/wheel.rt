@@ -10,7 +10,7 @@ use crate::{Circumference, Fault, Odometer, Pulses, Refusal, Way};
 mod tests;
 
 // Counts the pulses of a wheel. It holds all of them and not the way, so that the way is rounded once.
-#[derive(Drop)]
+#[derive(Debug, Drop)]
 pub struct Wheel {
     circumference: Circumference,
     // the pulses of one turn
@@ -65,7 +65,7 @@ impl Wheel {
 
 impl Odometer for Wheel {
     ghost use Rattle.odometer.specs.Wheel.{AddsPulses, wheel_meaning};
-    ghost use Rattle.odometer.specs.WheelRises.{way_rises};
+    ghost use Rattle.odometer.specs.WheelSums.{way_rises};
 
     type Reading = Pulses;
 

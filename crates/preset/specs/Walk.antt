@@ -1,5 +1,5 @@
 -- The walk over the entries of a file.
-use Rattle.std.specs.Prelude.{◌≡◌, ℕ, ◌+◌, ◌-◌, ◌<◌, ◌≤◌, List, Some, None, Ok, Err, Option, Result, drop, slice_index}
+use Rattle.std.specs.Prelude.{◌≡◌, ℕ, ◌+◌, ◌-◌, ◌<◌, ◌≤◌, List, Some, None, Ok, Err, Option, Result, drop, length, slice_index}
 use Rattle.preset.specs.Width.{size_of, entry_size}
 use Rattle.preset.specs.Format.{base, header_size}
 use Rattle.preset.specs.Entries.{Claim, claim, claims, count_in}
@@ -12,9 +12,9 @@ use Rattle.preset.specs.declared.refusal.Refusal.{Refusal}
 abbrev pub claimed_by : Entry → Claim
 claimed_by e = claim e.name_at e.bytes.now e.names.now
 
--- an entry that follows one of the number `last` is refused, or nothing is wrong with it
+-- an entry that follows one of the number `last` is refused, or nothing is wrong with it and its name lies in the file
 abbrev pub Checks : (last : ℕ) → Entry → Result (Unit {0}) Refusal → Type 0
-Checks last e (Ok u) = Passes e.ordinal last (claimed_by e)
+Checks last e (Ok u) = Passes e.ordinal last (claimed_by e) × (size_of e.bytes.now ≤ length e.names.now)
 Checks last e (Err r) = Fails e.ordinal last (claimed_by e) r
 
 -- the first entry of a file is next

@@ -46,7 +46,7 @@ impl<'a> Draft<'a> {
         }
         let mut last = PresetNumber::NONE;
         let mut extent = names_start(presets.len());
-        // by `as`: there are 32 at the most, so none of the ordinals is cut
+        // by `as`: there are 32 at the most, and `try_from` with `unwrap` would say no more
         for (i, preset) in presets.iter().enumerate() {
             check(preset, text, i as u8 + 1, last)?;
             last = preset.number;

@@ -8,7 +8,8 @@ mod reading;
 
 pub use reading::read;
 
-// The bytes of a file that is accepted: only `read` makes one.
+// The bytes of a file that is accepted: only `read` makes one. Clauses name the field: it can be copied, and a `Model` of that kind would have to
+// get the reference back from the bytes.
 #[derive(Clone, Copy)]
 pub struct PresetFile<'a> {
     bytes: &'a [u8],
@@ -41,6 +42,7 @@ impl<'a> PresetFile<'a> {
     pub fn lookup(&self, number: PresetNumber) -> Option<Preset>
         ensures { Finds self.now.bytes.now number.value result }
     {
+        // a `for`: in a chain of `find` and `map` nothing shows that the entry which was found keeps the rule
         for entry in self.entries() {
             if entry.number() == number {
                 return Some(entry.preset());

@@ -3,7 +3,8 @@ ghost use Rattle.std.specs.Prelude.{◌≡◌, ◌≤◌, length};
 use crate::Preset;
 
 // The presets of a file in order, as many as a file can hold, with no heap.
-// An array with its length beside it: no vector of the kit's is `Copy`, and a list of presets is.
+// An array with its length beside it: no vector of the kit's is `Copy`, and a list of presets is. For the same reason it has no `Model`: one that
+// can be copied has to get the unused slots back from the list.
 #[derive(Clone, Copy)]
 pub struct PresetList {
     slots: [Preset; 32],

@@ -7,12 +7,12 @@ const NAME_MOST: usize = 24;
 fn all_printable(bytes: &[u8]) -> bool
     ensures { result ≡ printable bytes.now }
 {
-    bytes.iter().all(|b| 32 <= *b && *b <= 126)
+    bytes.iter().all(|b| (32..=126).contains(b))
 }
 
 // Whether the bytes can be a name: 1 to 24 of them, each printable.
 pub(crate) fn is_name(bytes: &[u8]) -> bool
     ensures { result ≡ is_name bytes.now }
 {
-    1 <= bytes.len() && bytes.len() <= NAME_MOST && all_printable(bytes)
+    (1..=NAME_MOST).contains(&bytes.len()) && all_printable(bytes)
 }

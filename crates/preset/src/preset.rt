@@ -30,7 +30,8 @@ pub struct Rows {
     pub u: Row,
 }
 
-// A preset. Its name is a place in a text that is kept beside it: the file that it was read from, or the text that it is written with.
+// A preset, a plain value. Its name is a place in a text that is kept beside it: the file that it was read from, or the text that it is written
+// with. The rules want the name handed out by a call of its own.
 #[derive(Clone, Copy, Debug, PartialEq, Eq)]
 pub struct Preset {
     pub number: PresetNumber,

@@ -2,6 +2,7 @@ ghost use Rattle.std.specs.Prelude.{◌≡◌};
 ghost use Rattle.preset.specs.Refusals.{refusal_entry, refusal_layer, refusal_number};
 
 // Why a preset file, a row or a list of presets is refused. Entries are counted from 1; a row that is made alone has entry 0.
+// Number, entry and layer are its own: crates of one level know nothing of one another.
 #[derive(Clone, Copy, PartialEq, Eq, Debug)]
 pub enum Refusal {
     // under 6 bytes, or another length than the file says

@@ -30,7 +30,8 @@ impl Row {
     ghost use Rattle.preset.specs.Presets.{row_fields, row_numbers};
     ghost use Rattle.preset.specs.Steps.{ReadsRow};
 
-    // The row of seven numbers, or a refusal where they break the row rule. They come in the order in which the rule first names them.
+    // The row of seven numbers, or a refusal where they break the row rule. They come in the order in which the rule first names them, and as bare
+    // numbers: here they get their names and units.
     pub fn new(
         rlow: u8,
         rhigh: u8,
@@ -66,7 +67,7 @@ impl Row {
             };
             Ok(Row { fields })
         } else {
-            // a row that is made alone is in no entry
+            // the rules name entry 0 for a row that is made alone
             Err(Refusal::Rows(0))
         }
     }

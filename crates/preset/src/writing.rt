@@ -9,7 +9,8 @@ use crate::layout::{HEADER_SIZE, VERSION, names_start, to_two_bytes};
 use crate::{Preset, Refusal};
 
 // Puts a part into the buffer, and says where it ends.
-// By places: what `std` promises of a writer over `&mut [u8]` is the room that is left, and not the bytes that the buffer holds.
+// By places: what `std` promises of a writer over `&mut [u8]` is the room that is left, and not the bytes that the buffer holds; and a struct
+// round the `&mut` would only hold these two for two functions.
 fn put(buffer: &mut [u8], at: usize, part: &[u8]) -> usize
     requires { at + length part.now ≤ length buffer.old }
     ensures end { result ≡ at + length part.now }
@@ -21,8 +22,8 @@ fn put(buffer: &mut [u8], at: usize, part: &[u8]) -> usize
     end
 }
 
-// Puts the entry of a preset whose name lies at `name_at`. Narrowing is by `as` here: the check shows that nothing is lost, and `try_from` would
-// bring a case that never comes.
+// Puts the entry of a preset whose name lies at `name_at`. Narrowing is by `as` here and below: the check shows that nothing is lost, and
+// `try_from` with `unwrap` would say no more.
 fn put_entry(buffer: &mut [u8], at: usize, preset: &Preset, name_at: u16) -> usize
     requires room { at + entry_size ≤ length buffer.old }
     requires short { preset.now.name.length ≤ 24 }
@@ -57,9 +58,7 @@ fn put_all(draft: &Draft, buffer: &mut [u8])
         name_at += preset.name.length;
     }
     for named in draft.presets {
-        let from = named.name.offset;
-        let end = from + named.name.length;
-        at = put(buffer, at, &draft.text[from..end]);
+        at = put(buffer, at, named.name.part_of(draft.text).unwrap());
     }
 }
 

@@ -1,7 +1,7 @@
-use Rattle.std.proofs.Common.{◌≡◌, ◌+◌, ◌-◌, ◌++◌, length, take, drop, sym, ap, ◌∙◌, subst, arith}
+use Rattle.std.proofs.Common.{◌≡◌, ◌++◌, length, take, drop, sym, ap, ◌∙◌, subst, arith, rules}
 use Rattle.std.proofs.lemmas.List.{drop_all}
 use Rattle.preset.specs.Format.{base, names, entries, header, encoded}
-use Rattle.preset.specs.Presets.{all_named}
+use Rattle.preset.specs.Presets.{all_named, part}
 use Rattle.preset.proofs.Walks.{name_long}
 use Rattle.preset.proofs.Writes.{names_more, lies_here, entries_more, names_split, step, finish, encoded_is, total_named, drop_further}
 use Rattle.preset.proofs.writing.put_all.Goals as goal
@@ -33,10 +33,10 @@ loop-named-preserved c =
     let is = c.named-item.is in
     let w = lies_here text ps i x (omega arith) is c.args.draft.now.within in
     let n = names_more text ps i x (omega arith) is w in
-    let z : (x.name.offset + x.name.length) - x.name.offset ≡ x.name.length = omega arith in
-    let m : length (take ((x.name.offset + x.name.length) - x.name.offset) (drop x.name.offset text)) ≡ x.name.length = rw z (name_long text x w.1) in
+    let part_is : c.unwrap.result.now ≡ part text x.name = search rules in
+    let m = ap length part_is ∙ name_long text x w.1 in
     let more = c.put-at-in-loop-named.ensures in
-    let f = more.front ∙ ap (λ k. take c.loop-named.at c.loop-named.buffer ++ take k (drop x.name.offset text)) z in
+    let f = more.front ∙ ap (λ p. take c.loop-named.at c.loop-named.buffer ++ p) part_is in
     record {
       long = omega (arith, more.end, c.loop-named.invariant.long);
       done = step _ _ _ _ _ f (names_split text ps i x (omega arith) is) ∙ c.loop-named.invariant.done;

@@ -32,7 +32,7 @@ loop-entry-preserved c =
     let t = c.next.new.self in
     let e = c.in-Some.entry in
     let f = c.in-Some.ensures.steps in
-    let p = c.in_ok-check.ensures in
+    let p = c.in_ok-check.ensures.0 in
     record {
       can_next = tt;
       is_finite = tt;
