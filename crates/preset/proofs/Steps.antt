@@ -3,13 +3,17 @@ use Rattle.std.proofs.Common.{◌≡◌, ℕ, zero, suc, ◌+◌, ◌-◌, ◌�
 use Rattle.std.proofs.lemmas.List.{length-append, length-take-le}
 use Rattle.preset.specs.Width.{number_of, size_of, entry_size}
 use Rattle.preset.specs.Format.{names, base, total, header_size}
-use Rattle.preset.specs.Entries.{claims, claims_in, count_in, plain, fault, faults, decoded}
+use Rattle.preset.specs.Entries.{Claim, claims, claims_in, count_in, plain, fault, faults, decoded}
 use Rattle.preset.specs.Steps.{Passes, Fails}
-use Rattle.preset.specs.Walk.{Begins, GoesTo, Goes, claimed_by, claims_left}
+use Rattle.preset.specs.Walk.{Begins, GoesTo, Goes, claimed_by}
 use Rattle.preset.specs.declared.entry.Entry.{Entry}
 use Rattle.preset.specs.declared.entries.Entries.{Entries}
 use Rattle.preset.specs.declared.refusal.Refusal.{Refusal}
 use Rattle.preset.proofs.Claims.{meets, claim_within}
+
+-- the claims of the entries that are left
+abbrev pub claims_left : Entries → List Claim
+claims_left s = claims (s.places.end - s.places.start) s.name_at s.bytes.now s.names.now
 
 -- as many claims as entries
 pub length-claims : (left at : ℕ) (es ns : List ℕ) → length (map plain (claims left at es ns)) ≡ left

@@ -10,14 +10,14 @@ use Rattle.preset.specs.Format.{Named, Held, base, total, located, encoded}
 use Rattle.preset.specs.Entries.{Claim, count_in, count_fits, plain, faults, unless, decoded, held, numbered, first_refusal}
 use Rattle.preset.specs.Presets.{named, all_named, held_as, part, claimed, LiesIn}
 use Rattle.preset.specs.Steps.{Says, Lies}
-use Rattle.preset.specs.Walk.{Begins, Goes, GoesTo, claimed_by, claims_left}
+use Rattle.preset.specs.Walk.{Begins, Goes, GoesTo, claimed_by}
 use Rattle.preset.specs.Calls.{Lists}
 use Rattle.preset.specs.declared.entry.Entry.{Entry}
 use Rattle.preset.specs.declared.entries.Entries.{Entries}
 use Rattle.preset.specs.declared.preset.Preset.{Preset}
 use Rattle.preset.specs.declared.refusal.Refusal.TheVariants.{Room}
 use Rattle.preset.proofs.Claims.{Meets, meets, name_short, claim_within, faults_clear, whole, whole_plain, count_fit}
-use Rattle.preset.proofs.Steps.{claims_first, faults_first, claims_more, claims_done}
+use Rattle.preset.proofs.Steps.{claims_left, claims_first, faults_first, claims_more, claims_done}
 use Rattle.preset.proofs.Bytes.{Bytes}
 use Rattle.preset.proofs.Trips.{accepted, decoded_fine, decoded_valid, encoded_decoded}
 

@@ -1,8 +1,8 @@
 -- The walk over the entries of a file.
-use Rattle.std.specs.Prelude.{◌≡◌, ℕ, ◌+◌, ◌-◌, ◌<◌, ◌≤◌, List, Some, None, Ok, Err, Option, Result, drop, length, slice_index}
+use Rattle.std.specs.Prelude.{◌≡◌, ℕ, ◌+◌, ◌<◌, ◌≤◌, List, Some, None, Ok, Err, Option, Result, drop, length, slice_index}
 use Rattle.preset.specs.Width.{size_of, entry_size}
 use Rattle.preset.specs.Format.{base, header_size}
-use Rattle.preset.specs.Entries.{Claim, claim, claims, count_in}
+use Rattle.preset.specs.Entries.{Claim, claim, count_in}
 use Rattle.preset.specs.Steps.{Passes, Fails}
 use Rattle.preset.specs.declared.entry.Entry.{Entry}
 use Rattle.preset.specs.declared.entries.Entries.{Entries}
@@ -43,7 +43,3 @@ pub record GoesTo (s : Entries) (e : Entry) (t : Entries) : Type 0 where
 abbrev pub Goes : Entries → Option Entry → Entries → Type 0
 Goes s None t = s.places.end ≤ s.places.start
 Goes s (Some e) t = GoesTo s e t
-
--- the claims of the entries that are left
-abbrev pub claims_left : Entries → List Claim
-claims_left s = claims (s.places.end - s.places.start) s.name_at s.bytes.now s.names.now

@@ -2,9 +2,9 @@ use Rattle.std.proofs.Common.{sym, ap, ◌∙◌, subst, arith}
 use Rattle.std.proofs.lemmas.Result.{err_from_is_err_and}
 use Rattle.preset.specs.Entries.{faults}
 use Rattle.preset.specs.Steps.{unless_refused}
-use Rattle.preset.specs.Walk.{Begins, claims_left}
+use Rattle.preset.specs.Walk.{Begins}
 use Rattle.preset.specs.Width.{size_of}
-use Rattle.preset.proofs.Steps.{faults_first, names_first, faults_on, faults_stop, names_on}
+use Rattle.preset.proofs.Steps.{claims_left, faults_first, names_first, faults_on, faults_stop, names_on}
 use Rattle.preset.proofs.file.reading.check_entries.Goals as goal
 
 pub loop-entry-init : goal.loop-entry-init

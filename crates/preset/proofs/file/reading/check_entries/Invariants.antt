@@ -1,7 +1,7 @@
 use Rattle.std.proofs.Common.{◌≡◌, ◌+◌, map, length, Option}
 use Rattle.preset.specs.Entries.{claims_in, decoded, plain, faults}
 use Rattle.preset.specs.Format.{names, total}
-use Rattle.preset.specs.Walk.{claims_left}
+use Rattle.preset.proofs.Steps.{claims_left}
 use Rattle.preset.specs.declared.refusal.Refusal.{Refusal}
 use Rattle.preset.proofs.file.reading.check_entries.Given as goal
 
