@@ -14,6 +14,10 @@ use Rattle.listing.proofs.text.put_outcome.Goals as goal
 all_of : {b f : List ℕ} {ps qs : List Preset} → qs ≡ ps → Lists f ps → f ≡ b → all_named f qs ≡ decoded b
 all_of {f = f} handed l read = ap (all_named f) handed ∙ l.presets ∙ ap decoded read
 
+pub put_presets-requires-clause-sound : goal.put_presets-requires-clause-sound
+put_presets-requires-clause-sound c =
+    rw (all_of c.as_slice.ensures c.presets-presets.ensures c.in-Ok.ensures.answer.1) c.in-Ok.ensures.exactly_valid_lists.0.valid.sound
+
 -- the lines of a file's presets, and then the last line
 whole : (b before then : List ℕ) (ps : List Named) (n : ℕ) (v : Verdict) → first_refusal b ≡ None → ps ≡ decoded b
     → then ≡ before ++ all_lines ps → n ≡ length b → v ≡ Same → then ++ wrote_line n v ≡ before ++ outcome b (first_refusal b)
