@@ -86,6 +86,23 @@ fn the_kinds(rt: HostRuntime) {
     assert_eq!(rt; kind::<BrakeLoop>(), (true, true));
 }
 
+// A kind is a constant for callers too.
+const A_VALVE_SETTLES_AT_ONCE: bool = <Valve as Brake>::SETTLES_AT_ONCE;
+
+#[test]
+fn a_kind_in_a_constant_and_calls_as_values(rt: HostRuntime) {
+    let make: fn() -> BrakeLoop = BrakeLoop::new;
+    let apply: fn(&mut BrakeLoop) = BrakeLoop::apply;
+    let mut brake = make();
+    apply(&mut brake);
+    let as_its_kind_says = match brake.is_settled() {
+        BrakeLoop::SETTLES_AT_ONCE => true,
+        _ => false,
+    };
+    assert!(rt; as_its_kind_says);
+    assert!(rt; !A_VALVE_SETTLES_AT_ONCE);
+}
+
 // Whether a brake is let off once it was applied and told these pressures.
 fn let_off<B: Brake>(brake: &mut B, told: &[Pressure]) -> bool {
     rehearse(brake, told).is_ok()
