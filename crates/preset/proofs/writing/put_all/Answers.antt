@@ -24,6 +24,18 @@ loop-preset-preserved c =
       behind = more.back ∙ drop_further c.loop-preset.at c.put_entry-at.result c.loop-preset.buffer c.put-at.new.buffer (omega (arith, more.end)) c.loop-preset.invariant.behind;
     }
 
+-- The check finds it; it stands so that a part put elsewhere is refused by the numbers at which it has no room.
+pub put-at-requires-in-loop-named : goal.put-at-requires-in-loop-named
+put-at-requires-in-loop-named c =
+    let text = c.args.draft.now.text.now in
+    let ps = c.args.draft.now.presets.now in
+    let x = c.named-item.result in
+    let w = lies_here text ps c.loop-named.named-index x (omega arith) c.named-item.is c.args.draft.now.within in
+    let n = names_more text ps c.loop-named.named-index x (omega arith) c.named-item.is w in
+    let part_is : c.unwrap.result.now ≡ part text x.name = search rules in
+    let m = ap length part_is ∙ name_long text x w.1 in
+    omega (arith, c.loop-named.invariant.long)
+
 pub loop-named-preserved : goal.loop-named-preserved
 loop-named-preserved c =
     let text = c.args.draft.now.text.now in

@@ -1,7 +1,8 @@
-use Rattle.std.proofs.Common.{sym, ap, ◌∙◌, subst}
+use Rattle.std.proofs.Common.{◌≡◌, sym, ap, ◌∙◌, subst, arith}
 use Rattle.preset.specs.Entries.{numbered}
 use Rattle.std.proofs.lemmas.Bool.{eqb-false, eqb-true}
 use Rattle.preset.specs.Walk.{Begins}
+use Rattle.preset.specs.Width.{number_of}
 use Rattle.preset.proofs.Walks.{stands_first, stands_rows, stands_next, lies, held_first, found, not_here}
 use Rattle.preset.proofs.file.PresetFile.lookup.Goals as goal
 
@@ -29,7 +30,7 @@ returns-then-eq c =
     let e = c.in-Some.entry in
     let f = c.in-Some.ensures.steps in
     let h = c.loop-entry.invariant.stands in
-    let is = sym c.number.ensures ∙ eqb-true _ _ (sym c.eq.ensures ∙ c.if-eq.true) in (
+    let is : number_of e.bytes.now ≡ c.args.number.value = omega (arith, c.number.ensures, eqb-true _ _ (sym c.eq.ensures ∙ c.if-eq.true)) in (
       sym c.loop-entry.invariant.same ∙ found b s t e h f c.preset.result c.preset.ensures c.args.number.value is,
       (lies b s t e h f c.preset.result c.preset.ensures).1,
     )

@@ -2,7 +2,7 @@ use Rattle.std.proofs.Common.{[], ◌∷◌, ◌++◌, map, length, sym, ap, ◌
 use Rattle.std.proofs.lemmas.List.{append-nil, length-append}
 use Rattle.std.proofs.lemmas.List.Elements.{All-nil, All-push, All-same}
 use Rattle.preset.specs.Presets.{held_as, listed}
-use Rattle.preset.specs.Steps.{Lies}
+use Rattle.preset.specs.Steps.{Lies, Says}
 use Rattle.preset.specs.Walk.{Begins}
 use Rattle.preset.proofs.Walks.{stands_first, stands_rows, stands_next, lies, held_left, held_first, held_done, held_next, listed_more, lists}
 use Rattle.preset.proofs.file.PresetFile.presets.Goals as goal
@@ -36,7 +36,8 @@ loop-entry-preserved c =
     let f = c.in-Some.ensures.steps in
     let h = c.loop-entry.invariant.stands in
     let p = c.preset.result in
-    let says = c.preset.ensures in
+    let told = c.preset.ensures in
+    let says : Says e.name_at e.bytes.now p = record { number = told.number; offset = omega (arith, told.offset); size = told.size; rows = told.rows } in
     let before = listed c.loop-entry.presets in
     let more = c.push.ensures in
     record {
