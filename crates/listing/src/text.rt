@@ -54,6 +54,7 @@ fn written_back(heap: Global, presets: &[Preset], bytes: &[u8]) -> Result<Writte
 }
 
 // What comes after the first line: the presets and what came of writing them back, or the refusal.
+// The allocator is for the buffer to write back into, beside the text, which has its own.
 fn put_outcome(heap: Global, out: &mut String, bytes: &[u8]) -> Result<(), AllocError>
     ensures { OnOk result (string_bytes out.new ≡ string_bytes out.old ++ outcome bytes.now (first_refusal bytes.now)) }
 {
