@@ -1,6 +1,6 @@
 -- One entry further, in a file that is read.
 use Rattle.std.proofs.Common.{◌≡◌, ℕ, zero, suc, ◌+◌, ◌-◌, ◌≤◌, List, [], ◌∷◌, map, length, take, drop, Some, None, Option, sym, refl, ap, ◌∙◌, arith}
-use Rattle.std.proofs.lemmas.List.{length-append, length-take-le}
+use Rattle.std.proofs.lemmas.List.{drop-drop, length-append, length-take-le}
 use Rattle.preset.specs.Width.{number_of, size_of, entry_size}
 use Rattle.preset.specs.Format.{names, base, total, header_size}
 use Rattle.preset.specs.Entries.{Claim, claims, claims_in, count_in, plain, fault, faults, decoded}
@@ -13,7 +13,7 @@ use Rattle.preset.proofs.Claims.{meets, claim_within}
 
 -- the claims of the entries that are left
 abbrev pub claims_left : Entries → List Claim
-claims_left s = claims (s.places.end - s.places.start) s.name_at s.bytes.now s.names.now
+claims_left s = claims (s.places.end - s.places.start) s.name_at (drop (base s.places.start) s.file.now) (drop s.name_at s.file.now)
 
 -- as many claims as entries
 pub length-claims : (left at : ℕ) (es ns : List ℕ) → length (map plain (claims left at es ns)) ≡ left
@@ -25,7 +25,7 @@ module _ (b : List ℕ) (s : Entries) (f : Begins b s) where
   pub claims_first : claims_left s ≡ claims_in b
   claims_first =
       let n : s.places.end - s.places.start ≡ count_in b = omega (arith, f.first, f.behind_last) in
-      rw (n, f.bytes, f.names, f.name_at)
+      rw (n, f.first, f.file, f.name_at)
 
   pub faults_first : (o : Option Refusal) → faults s.places.start 0 (claims_left s) o ≡ faults 0 0 (claims_in b) o
   faults_first o = ap (λ k. faults k 0 (claims_left s) o) f.first ∙ ap (λ cs. faults 0 0 cs o) claims_first
@@ -42,7 +42,13 @@ module _ (s t : Entries) (e : Entry) (f : GoesTo s e t) where
   pub claims_more : claims_left s ≡ claimed_by e ∷ claims_left t
   claims_more =
       let n : s.places.end - s.places.start ≡ suc (t.places.end - t.places.start) = omega (arith, f.left, f.next, f.behind_last) in
-      rw (n, f.bytes, f.names, f.name_at, f.bytes_behind, f.names_behind, f.name_at_behind)
+      let es = drop (base s.places.start) s.file.now in
+      let z : base (s.places.start + 1) ≡ base s.places.start + entry_size = omega arith in
+      let behind : drop (base t.places.start) t.file.now ≡ drop entry_size es =
+      rw (f.same_file, f.next, z) (sym (drop-drop entry_size (base s.places.start) s.file.now)) in
+      let names_behind : drop t.name_at t.file.now ≡ drop (size_of es) (drop s.name_at s.file.now) =
+      rw (f.same_file, f.name_at_behind) (sym (drop-drop (size_of es) s.name_at s.file.now)) in
+      rw (n, f.bytes, f.names, f.name_at, behind, names_behind, f.name_at_behind)
 
   -- an entry that nothing is wrong with
   module _ (last : ℕ) (p : Passes e.ordinal last (claimed_by e)) where

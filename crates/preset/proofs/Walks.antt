@@ -1,6 +1,6 @@
 -- A walk over the entries of an accepted file.
 use Rattle.std.proofs.Common.{◌≡◌, ℕ, ◌+◌, ◌≤◌, true, leb, List, [], ◌∷◌, ◌++◌, All, map, length, take, drop, None, sym, refl, ap, ◌∙◌, arith}
-use Rattle.std.proofs.lemmas.List.{drop-drop, length-drop, length-take-le, map-append, append_assoc, length-map}
+use Rattle.std.proofs.lemmas.List.{length-drop, length-take-le, map-append, append_assoc, length-map}
 use Rattle.std.proofs.lemmas.Simd.{map-map}
 use Rattle.std.proofs.lemmas.List.Elements.{All-head, All-tail, All-weaker}
 use Rattle.std.proofs.lemmas.Bool.{eq-eqb, ne_eqb, le-leb}
@@ -24,14 +24,14 @@ use Rattle.preset.proofs.Trips.{accepted, decoded_fine, decoded_valid, encoded_d
 -- nothing is wrong with the entries that are left
 pub record Stands (b : List ℕ) (s : Entries) : Type 0 where
   pub within : s.name_at ≤ length b
-  pub names : s.names.now ≡ drop s.name_at b
+  pub file : s.file.now ≡ b
   pub last : ℕ
   pub fine : faults s.places.start last (claims_left s) None ≡ None
 
 pub stands_first : (b : List ℕ) (s : Entries) → Begins b s → first_refusal b ≡ None → Stands b s
 stands_first b s f h =
     let a = accepted b h in
-    record { within = omega (arith, a.room, f.name_at); names = f.names ∙ ap (λ n. drop n b) (sym f.name_at); last = 0; fine = faults_first b s f None ∙ a.fine }
+    record { within = omega (arith, a.room, f.name_at); file = f.file; last = 0; fine = faults_first b s f None ∙ a.fine }
 
 -- the presets that are left, with their places
 abbrev pub held_left : Entries → List Held
@@ -60,7 +60,7 @@ module _ (b : List ℕ) (s t : Entries) (e : Entry) (stands : Stands b s) (f : G
   stands_rows = step.0.rows
 
   names_here : e.names.now ≡ drop e.name_at b
-  names_here = f.names ∙ (stands.names ∙ ap (λ n. drop n b) (sym f.name_at))
+  names_here = f.names ∙ (ap (drop s.name_at) stands.file ∙ ap (λ n. drop n b) (sym f.name_at))
 
   size_fits : size_of e.bytes.now ≤ length e.names.now
   size_fits = claim_within e.name_at e.bytes.now e.names.now step.0.name.placed
@@ -73,10 +73,7 @@ module _ (b : List ℕ) (s t : Entries) (e : Entry) (stands : Stands b s) (f : G
       let size = ap size_of f.bytes in
       record {
         within = omega (arith, size_inside, size, f.name_at, f.name_at_behind);
-        names =
-            f.names_behind ∙
-            (ap (drop (size_of s.bytes.now)) stands.names ∙
-            (drop-drop (size_of s.bytes.now) s.name_at b ∙ ap (λ n. drop n b) (sym f.name_at_behind)));
+        file = f.same_file ∙ stands.file;
         last = number_of e.bytes.now;
         fine = ap (λ k. faults k (number_of e.bytes.now) (claims_left t) None) f.next ∙ step.1;
       }

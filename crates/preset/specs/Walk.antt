@@ -1,7 +1,7 @@
 -- The walk over the entries of a file.
 use Rattle.std.specs.Prelude.{◌≡◌, ℕ, ◌+◌, ◌<◌, ◌≤◌, List, Some, None, Ok, Err, Option, Result, drop, length, slice_index}
-use Rattle.preset.specs.Width.{size_of, entry_size}
-use Rattle.preset.specs.Format.{base, header_size}
+use Rattle.preset.specs.Width.{size_of}
+use Rattle.preset.specs.Format.{base}
 use Rattle.preset.specs.Entries.{Claim, claim, count_in}
 use Rattle.preset.specs.Steps.{Passes, Fails}
 use Rattle.preset.specs.declared.entry.Entry.{Entry}
@@ -21,23 +21,21 @@ Checks last e (Err r) = Fails e.ordinal last (claimed_by e) r
 pub record Begins (b : List ℕ) (s : Entries) : Type 0 where
   pub first : s.places.start ≡ 0
   pub behind_last : s.places.end ≡ count_in b
-  pub bytes : s.bytes.now ≡ drop header_size b
-  pub names : s.names.now ≡ drop (base (count_in b)) b
   pub name_at : s.name_at ≡ base (count_in b)
+  pub file : s.file.now ≡ b
   pub each_a_byte : (i : ℕ) → slice_index b i < 256
 
 -- an entry is the next one, and then the one behind it is
 pub record GoesTo (s : Entries) (e : Entry) (t : Entries) : Type 0 where
   pub left : s.places.start + 1 ≤ s.places.end
   pub ordinal : e.ordinal ≡ s.places.start + 1
-  pub bytes : e.bytes.now ≡ s.bytes.now
-  pub names : e.names.now ≡ s.names.now
+  pub bytes : e.bytes.now ≡ drop (base s.places.start) s.file.now
+  pub names : e.names.now ≡ drop s.name_at s.file.now
   pub name_at : e.name_at ≡ s.name_at
   pub next : t.places.start ≡ s.places.start + 1
   pub behind_last : t.places.end ≡ s.places.end
-  pub bytes_behind : t.bytes.now ≡ drop entry_size s.bytes.now
-  pub names_behind : t.names.now ≡ drop (size_of s.bytes.now) s.names.now
-  pub name_at_behind : t.name_at ≡ s.name_at + size_of s.bytes.now
+  pub name_at_behind : t.name_at ≡ s.name_at + size_of (drop (base s.places.start) s.file.now)
+  pub same_file : t.file.now ≡ s.file.now
 
 -- what comes next, and what is left then
 abbrev pub Goes : Entries → Option Entry → Entries → Type 0

@@ -1,5 +1,5 @@
 ghost use Rattle.std.specs.Prelude.{◌+◌, ◌-◌, ◌*◌, ◌^◌, ◌<◌, ◌≤◌, length};
-ghost use Rattle.preset.specs.Width.{entry_size};
+ghost use Rattle.preset.specs.Format.{base};
 
 use crate::entry::Entry;
 use crate::layout::{ENTRY_SIZE, HEADER_SIZE, names_start};
@@ -10,19 +10,17 @@ use std::ops::Range;
 pub(crate) struct Entries<'a> {
     // those that are left, counted from 0
     places: Range<u8>,
-    // the bytes from the next entry on, and those from its name on
-    bytes: &'a [u8],
-    names: &'a [u8],
     // where the next name has to be
     name_at: usize,
+    // the whole file: an entry's own bytes are taken for it alone, so that a look-up goes on by places
+    file: &'a [u8],
     ghost few: { places.end ≤ 32 },
-    ghost whole: { entry_size * (places.end - places.start) ≤ length bytes.now },
+    ghost whole: { base places.end ≤ length file.now },
     ghost near: { name_at + 255 * (places.end - places.start) < 2 ^ 32 },
 }
 
 impl<'a> Entries<'a> {
     ghost use Rattle.preset.specs.Entries.{count_in};
-    ghost use Rattle.preset.specs.Format.{base};
     ghost use Rattle.preset.specs.Walk.{Begins};
 
     // All entries of a file.
@@ -35,9 +33,8 @@ impl<'a> Entries<'a> {
         let name_at = names_start(usize::from(count));
         Entries {
             places: 0..count,
-            bytes: &file[HEADER_SIZE..],
-            names: &file[name_at..],
             name_at,
+            file,
         }
     }
 }
@@ -56,14 +53,11 @@ impl<'a> Iterator for Entries<'a> {
         let place = self.places.next()?;
         let entry = Entry {
             ordinal: place + 1,
-            bytes: self.bytes,
-            names: self.names,
+            bytes: &self.file[HEADER_SIZE + ENTRY_SIZE * usize::from(place)..],
+            names: &self.file[self.name_at.min(self.file.len())..],
             name_at: self.name_at,
         };
-        let length = entry.name_length();
-        self.bytes = &self.bytes[ENTRY_SIZE..];
-        self.names = &self.names[length.min(self.names.len())..];
-        self.name_at += length;
+        self.name_at += entry.name_length();
         Some(entry)
     }
 }
