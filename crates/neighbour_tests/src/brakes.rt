@@ -3,14 +3,14 @@ use std::test::Fail;
 
 // A table of steps and outcomes is plainer than a call and a comparison for each.
 #[derive(Clone, Copy)]
-enum Step {
+pub(crate) enum Step {
     Apply,
     Tell(u16),
     LetOff,
 }
 
 // A step, the number of its refusal, and then whether the brake is applied and whether it is settled.
-type Case = (Step, Option<u8>, bool, bool);
+pub(crate) type Case = (Step, Option<u8>, bool, bool);
 
 // Makes one step, and answers the number of the refusal, if there is one.
 fn make<B: Brake>(brake: &mut B, step: Step) -> Option<u8> {
@@ -23,7 +23,7 @@ fn make<B: Brake>(brake: &mut B, step: Step) -> Option<u8> {
 }
 
 // A new brake has neither fact; then each step in turn.
-fn check_steps<B: Brake>(brake: &mut B, cases: &[Case]) -> Result<(), Fail> {
+pub(crate) fn check_steps<B: Brake>(brake: &mut B, cases: &[Case]) -> Result<(), Fail> {
     if (brake.is_applied(), brake.is_settled()) != (false, false) {
         return Err(Fail::new("a new brake has one of the facts"));
     }

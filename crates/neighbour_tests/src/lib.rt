@@ -4,6 +4,8 @@
 #[cfg(test)]
 mod brakes;
 #[cfg(test)]
+mod open_kind;
+#[cfg(test)]
 mod own;
 #[cfg(test)]
 mod readings;
